@@ -12,7 +12,8 @@ use borrow.Author.Tests.{le-leb, lt-leb, eq-eqb, ne-eqb}
 use Rattle.kinds.specs.declared.Kind.{Kind}
 use Rattle.kinds.specs.declared.Kind.the-variants.{And2, Xor2, And3, Xor3, Maj, Mux, Dff}
 use Rattle.signal.specs.declared.Signal.{Signal}
-use Rattle.model.specs.Signal.{xor, isInverted, flip, neg, withoutInversion, fromBool}
+use Rattle.laws.specs.Bools.{xor}
+use Rattle.model.specs.Signal.{isInverted, flip, neg, withoutInversion, fromBool}
 use Rattle.model.specs.Normal.{Norm, copied, made, gateOf, made2, made3, least, most, low3, mid3, high3, andSorted, makeAnd, xorSorted, makeXor, and3Sorted, makeAnd3, xor3Sorted, makeXor3, muxPlain, muxSelect, makeMux, majPlain, majSorted, makeMaj, makeDff}
 use Rattle.gates.specs.Normals.{normalOf}
 use Rattle.gates.specs.declared.Normalization.{Normalization}

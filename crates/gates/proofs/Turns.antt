@@ -11,7 +11,8 @@ use borrow.Author.Tests.{le-leb, lt-leb, eq-eqb, ne-eqb, eqb-true, eqb-false, le
 use Rattle.kinds.specs.declared.Kind.{Kind}
 use Rattle.kinds.specs.declared.Kind.the-variants.{Maj}
 use Rattle.signal.specs.declared.Signal.{Signal}
-use Rattle.model.specs.Signal.{xor, bit, isInverted, flip, neg}
+use Rattle.laws.specs.Bools.{xor, bit}
+use Rattle.model.specs.Signal.{isInverted, flip, neg}
 use Rattle.model.proofs.Words.{flip-ind, flip-inv, neg-neg}
 use Rattle.model.proofs.Order.{low-mid, mid-high, low-stays, mid-stays, high-stays, rising, neg-rising}
 use Rattle.model.specs.Normal.{Norm, copied, made3, least, most, low3, mid3, high3, makeAnd, muxPlain, muxSelect, makeMux, majPlain, majSorted, makeMaj}

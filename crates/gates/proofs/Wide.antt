@@ -11,7 +11,8 @@ use lib.Dec.{eqb}
 use borrow.Author.Tests.{eq-eqb, ne-eqb}
 use Rattle.kinds.specs.declared.Kind.the-variants.{AndN, XorN}
 use Rattle.signal.specs.declared.Signal.{Signal}
-use Rattle.model.specs.Signal.{xor, flip, neg, withoutInversion, fromBool}
+use Rattle.laws.specs.Bools.{xor}
+use Rattle.model.specs.Signal.{flip, neg, withoutInversion, fromBool}
 use Rattle.model.specs.Normal.{Norm, copied, made, gateOf, makeAnd, makeAnd3, makeXor, makeXor3, without, sorted, uniq, opposed, andSome, andWide, andTidy, makeAndN, parity, cancel, xorSome, makeXorN}
 use Rattle.gates.specs.Normals.{normalOf}
 use Rattle.gates.specs.Passes.{Front, Listed}

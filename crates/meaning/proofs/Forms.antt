@@ -12,13 +12,15 @@ use borrow.Author.Tests.{eq-eqb, ne-eqb, lt-ltb, eqb-true, eqb-false}
 use Rattle.kinds.specs.Kinds.{kindOf, codeOf}
 use Rattle.kinds.specs.declared.Kind.{Kind}
 use Rattle.kinds.specs.declared.Kind.the-variants.{And2, Xor2, And3, Xor3, Maj, Mux, AndN, OrN, NandN, NorN, XorN, XnorN, Buf, Dff, Lut}
-use Rattle.model.specs.Signal.{xor, isInverted, ind, flip, neg, withoutInversion, fromBool, isConstant}
+use Rattle.laws.specs.Bools.{xor}
+use Rattle.model.specs.Signal.{isInverted, ind, flip, neg, withoutInversion, fromBool, isConstant}
 use Rattle.model.specs.Gate.{Gate, fitsKind}
 use Rattle.model.specs.Normal.{Norm, copied, made, gateOf, made2, made3, least, most, low3, mid3, high3, andSorted, makeAnd, xorSorted, makeXor, and3Sorted, makeAnd3, xor3Sorted, makeXor3, muxPlain, muxSelect, makeMux, majPlain, majSorted, makeMaj, makeDff, keep, without, insert, sorted, uniq, opposed, andSome, andWide, andTidy, makeAndN, parity, cancel, xorSome, makeXorN, on1, on2, on3, normalK, makeCanonical, rises, sortedN, noInv, proper, muxCanonical, dffCanonical, canonicalK, isCanonical, isNormal}
 use Rattle.model.proofs.Words.{flip-inv, flip-ind, plain-inv, inv-even, same-ind, neg-neg}
 use Rattle.model.proofs.Order.{least-most, low-mid, mid-high, rising}
-use Rattle.meaning.proofs.Lists.{All, all-map}
-use Rattle.meaning.proofs.Tables.{by-eq, by-or2, by-or3, by-le, by-test}
+use Rattle.laws.specs.Lists.{All}
+use Rattle.laws.proofs.Lists.{all-map}
+use Rattle.laws.proofs.Choices.{by-eq, by-or2, by-or3, by-le, by-test}
 use Rattle.meaning.proofs.Values.{sort2-ok, sort3-ok}
 use Rattle.meaning.proofs.Wide.{insert-all, sorted-all, without-all, uniq-all, cancel-all}
 

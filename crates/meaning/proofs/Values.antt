@@ -10,12 +10,17 @@ use lib.Dec.{eqb, leb}
 use Rattle.kinds.specs.Kinds.{kindOf, codeOf, isFlipFlop}
 use Rattle.kinds.specs.declared.Kind.{Kind}
 use Rattle.kinds.specs.declared.Kind.the-variants.{And2, Xor2, And3, Xor3, Maj, Mux, AndN, OrN, NandN, NorN, XorN, XnorN, Buf, Dff, Lut}
-use Rattle.model.specs.Signal.{xor, isInverted, wordOf, flip, neg, withoutInversion, fromBool, Ref, rzero, rnode, rinput, ref}
-use Rattle.model.specs.Gate.{Gate, valueOf, refValue, signalValue, gateValue, allOf, anyOf, oddOf, at}
+use Rattle.laws.specs.Bools.{xor}
+use Rattle.model.specs.Signal.{isInverted, wordOf, flip, neg, withoutInversion, fromBool, Ref, rzero, rnode, rinput, ref}
+use Rattle.model.specs.Gate.{Gate}
+use Rattle.model.specs.Evaluate.{valueOf, refValue, signalValue, gateValue, allOf, anyOf, oddOf, at}
 use Rattle.model.specs.Normal.{Norm, copied, made, gateOf, made2, made3, least, most, low3, mid3, high3, andSorted, makeAnd, xorSorted, makeXor, and3Sorted, makeAnd3, xor3Sorted, makeXor3, muxPlain, muxSelect, makeMux, majPlain, majSorted, makeMaj, normValue}
-use Rattle.model.proofs.Words.{flip-ref, flip-inv, zero-ref, one-ref, zero-inv, one-is, plain-ref, plain-inv, xor-assoc, xor-comm}
-use Rattle.meaning.proofs.Lists.{All, all-map}
-use Rattle.meaning.proofs.Tables.{by-eq, by-or, by-or2, by-or3, by-test, taut1, taut2, taut3, taut4, taut5, taut7}
+use Rattle.laws.proofs.Bools.{xor-assoc, xor-comm}
+use Rattle.model.proofs.Words.{flip-ref, flip-inv, zero-ref, one-ref, zero-inv, one-is, plain-ref, plain-inv}
+use Rattle.laws.specs.Lists.{All}
+use Rattle.laws.proofs.Lists.{all-map}
+use Rattle.laws.proofs.Choices.{by-eq, by-or, by-or2, by-or3, by-test}
+use Rattle.laws.proofs.Bools.{taut1, taut2, taut3, taut4, taut5, taut7}
 
 -- every node that signal s names is in K
 abbrev pub Names : (ℕ → Type 0) → ℕ → Type 0

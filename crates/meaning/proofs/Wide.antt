@@ -12,12 +12,17 @@ use borrow.Author.Tests.{eq-eqb, ne-eqb}
 use Rattle.kinds.specs.Kinds.{kindOf, codeOf, isFlipFlop}
 use Rattle.kinds.specs.declared.Kind.{Kind}
 use Rattle.kinds.specs.declared.Kind.the-variants.{And2, Xor2, And3, Xor3, Maj, Mux, AndN, OrN, NandN, NorN, XorN, XnorN, Buf, Dff, Lut}
-use Rattle.model.specs.Signal.{xor, isInverted, flip, neg, withoutInversion, fromBool, ref, rnode}
-use Rattle.model.specs.Gate.{Gate, valueOf, nextState, signalValue, gateValue, allOf, anyOf, oddOf, at}
+use Rattle.laws.specs.Bools.{xor}
+use Rattle.model.specs.Signal.{isInverted, flip, neg, withoutInversion, fromBool, ref, rnode}
+use Rattle.model.specs.Gate.{Gate}
+use Rattle.model.specs.Evaluate.{valueOf, nextState, signalValue, gateValue, allOf, anyOf, oddOf, at}
 use Rattle.model.specs.Normal.{Norm, copied, made, gateOf, made3, keep, without, insert, sorted, uniq, opposed, andSome, andWide, andTidy, makeAndN, parity, cancel, xorSome, makeXorN, makeAnd, makeXor, makeAnd3, makeXor3, makeMux, makeMaj, makeDff, on1, on2, on3, normalK, makeCanonical, normValue}
-use Rattle.model.proofs.Words.{one-ref, xor-assoc, xor-comm}
-use Rattle.meaning.proofs.Lists.{All, all-map}
-use Rattle.meaning.proofs.Tables.{by-eq, by-or, by-or3, by-test, taut1, taut2, taut3, taut4}
+use Rattle.laws.proofs.Bools.{xor-assoc, xor-comm, and-assoc, and-comm}
+use Rattle.model.proofs.Words.{one-ref}
+use Rattle.laws.specs.Lists.{All}
+use Rattle.laws.proofs.Lists.{all-map}
+use Rattle.laws.proofs.Choices.{by-eq, by-or, by-or3, by-test}
+use Rattle.laws.proofs.Bools.{taut1, taut2, taut3, taut4}
 use Rattle.meaning.proofs.Values.{Names, In, zero-names, value-flip, NormComb, NormIn, Ok, ρ-zero, ρ-one, ρ-neg, ρ-bool, ρ-plain, names-flip, names-plain, names-zero, copy-ok, bool-ok, ok-is, and-ok, xor-ok, mux-ok, and3-ok, xor3-ok, maj-ok}
 
 -- ---- a commutative monoid on Bool: And or Xor
@@ -28,16 +33,6 @@ pub record Monoid : Type 0 where
   pub assoc : (a b c : Bool) → op (op a b) c ≡ op a (op b c)
   pub comm : (a b : Bool) → op a b ≡ op b a
   pub unitl : (a : Bool) → op unit a ≡ a
-
-pub and-assoc : (a b c : Bool) → (a && b) && c ≡ a && (b && c)
-and-assoc true b c = refl
-and-assoc false b c = refl
-
-pub and-comm : (a b : Bool) → a && b ≡ b && a
-and-comm true true = refl
-and-comm true false = refl
-and-comm false true = refl
-and-comm false false = refl
 
 abbrev pub andF : Monoid
 andF = record { op = _&&_; unit = true; assoc = and-assoc; comm = and-comm; unitl = λ a. refl }

@@ -7,7 +7,9 @@ use native.Mathlib.Decide.{ℕ-discrete}
 use mathlib.Core.Bool.{Bool, true, false, not, cond}
 use lib.Dec.{eqb, ltb}
 use borrow.Author.Tests.{eq-eqb, ne-eqb, lt-ltb, le-ltb, eqb-true, eqb-false}
-use Rattle.model.specs.Signal.{xor, bit, wordOf, isInverted, ind, flip, neg, withoutInversion, fromVar, Ref, rzero, rnode, rinput, refIx, ref, remapOrder, remapRef, isConstant}
+use Rattle.laws.specs.Bools.{xor, bit}
+use Rattle.laws.proofs.Bools.{xor-false, xor-assoc}
+use Rattle.model.specs.Signal.{wordOf, isInverted, ind, flip, neg, withoutInversion, fromVar, Ref, rzero, rnode, rinput, refIx, ref, remapOrder, remapRef, isConstant}
 
 pub word-ind : (k : ℕ) (b : Bool) → wordOf k b / 2 ≡ k
 unfolding wordOf
@@ -22,22 +24,6 @@ word-inv k true = eq-eqb ((2 * k + 1) % 2) 1 (omega arith)
 pub word-parts : (s : ℕ) → wordOf (s / 2) (isInverted s) ≡ s
 unfolding wordOf isInverted
 word-parts s = elim (ℕ-discrete (s % 2) 1) [ yes e ↦ rw (eq-eqb (s % 2) 1 e) (omega arith) | no e ↦ rw (ne-eqb (s % 2) 1 e) (omega arith) ]
-
-xor-false : (b : Bool) → xor b false ≡ b
-xor-false false = refl
-xor-false true = refl
-
-pub xor-assoc : (a b c : Bool) → xor (xor a b) c ≡ xor a (xor b c)
-xor-assoc false b c = refl
-xor-assoc true false c = refl
-xor-assoc true true false = refl
-xor-assoc true true true = refl
-
-pub xor-comm : (a b : Bool) → xor a b ≡ xor b a
-xor-comm false false = refl
-xor-comm false true = refl
-xor-comm true false = refl
-xor-comm true true = refl
 
 pub flip-ind : (s : ℕ) (b : Bool) → flip s b / 2 ≡ s / 2
 unfolding flip

@@ -1,15 +1,16 @@
--- Gates and networks, and the value of one gate (document 01, "Evaluation").
-use Prim.Native.Nat.{ℕ, _+_, _*_, _/_, _%_, _^_}
-use mathlib.Core.Bool.{Bool, true, false, not, cond, _&&_, _||_}
+-- Gates and networks (document 01, "Signals and gates"; network.rs): what is valid, and what is sorted.
+use mathlib.Core.Path.{_≡_}
+use Prim.Native.Nat.{ℕ, suc, _+_, _^_, _≤_}
+use mathlib.Core.Bool.{Bool, true, false, cond, _&&_, _||_}
 use mathlib.Core.List.{List, [], _∷_, map}
-use lib.ListN.{getD}
-use lib.Dec.{eqb, leb}
-use Rattle.kinds.specs.Kinds.{kindOf, codeOf, isFlipFlop}
+use lib.ListN.{length, getD}
+use lib.Dec.{eqb, leb, ltb}
+use Rattle.kinds.specs.Kinds.{kindOf, isFlipFlop}
 use Rattle.kinds.specs.declared.Kind.{Kind}
 use Rattle.kinds.specs.declared.Kind.the-variants.{And2, Xor2, And3, Xor3, Maj, Mux, AndN, OrN, NandN, NorN, XorN, XnorN, Buf, Dff, Lut}
-use Rattle.model.specs.Signal.{xor, bit, Ref, rzero, rnode, rinput, isInverted, ref, remapOrder}
+use Rattle.model.specs.Signal.{Ref, rzero, rnode, rinput, ref, remapOrder}
 
--- a gate: document 01's code, the inputs' words, the table (0 but for a Lut)
+-- a gate: document 01's code, the inputs' words, the table (0 but for a Lut). Two gates are equal when all three agree
 pub record Gate : Type 0 where
   pub kind : ℕ
   pub ins : List ℕ
@@ -20,8 +21,25 @@ pub record Net : Type 0 where
   pub nodes : List Gate
   pub outs : List ℕ
 
+-- is_comb, turned round
+abbrev pub isDff : Gate → Bool
+isDff g = isFlipFlop (kindOf (g .kind))
+
+-- the gate's remap_order
 abbrev pub remapGate : (ℕ → ℕ) → Gate → Gate
 remapGate τ g = record { kind = g .kind; ins = map (remapOrder τ) (g .ins); table = g .table }
+
+-- what stands for a node that is not there
+abbrev pub noGate : Gate
+noGate = record { kind = 12; ins = []; table = 0 }
+
+abbrev pub gateAt : Net → ℕ → Gate
+gateAt N v = getD (N .nodes) v noGate
+
+abbrev pub size : Net → ℕ
+size N = length (N .nodes)
+
+-- ---- the shape of a gate
 
 -- how many inputs a kind has (document 01's table)
 unfoldable pub fitsKind : Kind → ℕ → Bool
@@ -41,59 +59,85 @@ fitsKind Buf n = eqb n 1
 fitsKind Dff n = eqb n 3
 fitsKind Lut n = leb n 6
 
--- ---- values
+-- a code of document 01's table, with as many inputs as it has
+unfoldable pub fitsCode : ℕ → ℕ → Bool
+fitsCode code n = ltb code 15 && fitsKind (kindOf code) n
 
-abbrev pub allOf : List Bool → Bool
-allOf [] = true
-allOf (b ∷ bs) = b && allOf bs
+-- a Lut of n inputs has its table's bits 2^n and above zero; no other gate has a table
+unfoldable pub fitsTable : Kind → ℕ → ℕ → Bool
+fitsTable And2 n t = eqb t 0
+fitsTable Xor2 n t = eqb t 0
+fitsTable And3 n t = eqb t 0
+fitsTable Xor3 n t = eqb t 0
+fitsTable Maj n t = eqb t 0
+fitsTable Mux n t = eqb t 0
+fitsTable AndN n t = eqb t 0
+fitsTable OrN n t = eqb t 0
+fitsTable NandN n t = eqb t 0
+fitsTable NorN n t = eqb t 0
+fitsTable XorN n t = eqb t 0
+fitsTable XnorN n t = eqb t 0
+fitsTable Buf n t = eqb t 0
+fitsTable Dff n t = eqb t 0
+fitsTable Lut n t = ltb t (2 ^ (2 ^ n))
 
-abbrev pub anyOf : List Bool → Bool
-anyOf [] = false
-anyOf (b ∷ bs) = b || anyOf bs
+unfoldable pub shaped : Gate → Bool
+shaped g = fitsCode (g .kind) (length (g .ins)) && fitsTable (kindOf (g .kind)) (length (g .ins)) (g .table)
 
-abbrev pub oddOf : List Bool → Bool
-oddOf [] = false
-oddOf (b ∷ bs) = xor b (oddOf bs)
+unfoldable pub allShaped : List Gate → Bool
+allShaped [] = true
+allShaped (g ∷ gs) = shaped g && allShaped gs
 
--- input k has weight 2^k
-abbrev pub weight : List Bool → ℕ
-weight [] = 0
-weight (b ∷ bs) = bit b + 2 * weight bs
+-- ---- the signals of a network
 
-abbrev pub at : List Bool → ℕ → Bool
-at l k = getD l k false
+-- the gate inputs in all
+unfoldable pub fanin : List Gate → ℕ
+fanin [] = 0
+fanin (g ∷ gs) = length (g .ins) + fanin gs
 
--- a combinational gate's value from its inputs' values and its table
-unfoldable pub valueOf : Kind → List Bool → ℕ → Bool
-valueOf And2 l t = allOf l
-valueOf Xor2 l t = oddOf l
-valueOf And3 l t = allOf l
-valueOf Xor3 l t = oddOf l
-valueOf Maj l t = at l 0 && at l 1 || at l 0 && at l 2 || at l 1 && at l 2
-valueOf Mux l t = cond (at l 0) (at l 1) (at l 2)
-valueOf AndN l t = allOf l
-valueOf OrN l t = anyOf l
-valueOf NandN l t = not (allOf l)
-valueOf NorN l t = not (anyOf l)
-valueOf XorN l t = oddOf l
-valueOf XnorN l t = not (oddOf l)
-valueOf Buf l t = at l 0
-valueOf Dff l t = false
-valueOf Lut l t = eqb (t / 2 ^ weight l % 2) 1
+-- is_valid: a signal names a constant, one of the inputs or one of the nodes
+abbrev pub namedRef : ℕ → ℕ → Ref → Bool
+namedRef inputs nodes rzero = true
+namedRef inputs nodes (rnode v) = ltb v nodes
+namedRef inputs nodes (rinput k) = ltb k inputs
 
--- a flip-flop's next state, from its inputs' values (d, en, res) and its state
-unfoldable pub nextState : List Bool → Bool → Bool
-nextState l q = cond (at l 1) (cond (at l 2) false (at l 0)) q
+unfoldable pub named : ℕ → ℕ → ℕ → Bool
+named inputs nodes s = namedRef inputs nodes (ref s)
 
--- a signal's value: i the inputs' values, v the nodes'
-abbrev pub refValue : (ℕ → Bool) → (ℕ → Bool) → Ref → Bool
-refValue i v rzero = false
-refValue i v (rnode w) = v w
-refValue i v (rinput k) = i k
+unfoldable pub allNamed : ℕ → ℕ → List ℕ → Bool
+allNamed i n [] = true
+allNamed i n (s ∷ ss) = named i n s && allNamed i n ss
 
-unfoldable pub signalValue : (ℕ → Bool) → (ℕ → Bool) → ℕ → Bool
-signalValue i v s = xor (isInverted s) (refValue i v (ref s))
+unfoldable pub gatesNamed : ℕ → ℕ → List Gate → Bool
+gatesNamed i n [] = true
+gatesNamed i n (g ∷ gs) = allNamed i n (g .ins) && gatesNamed i n gs
 
--- the one-gate value
-unfoldable pub gateValue : (ℕ → Bool) → (ℕ → Bool) → Gate → Bool
-gateValue i v g = valueOf (kindOf (g .kind)) (map (signalValue i v) (g .ins)) (g .table)
+-- every signal of a network, outputs too
+unfoldable pub wired : Net → Bool
+wired n = gatesNamed (n .inputs) (size n) (n .nodes) && allNamed (n .inputs) (size n) (n .outs)
+
+-- is_topo_sorted: each combinational gate names only nodes below its own number; a flip-flop may name any
+abbrev pub belowRef : ℕ → Ref → Bool
+belowRef n rzero = true
+belowRef n (rnode v) = ltb v n
+belowRef n (rinput k) = true
+
+unfoldable pub allBelow : ℕ → List ℕ → Bool
+allBelow n [] = true
+allBelow n (s ∷ ss) = belowRef n (ref s) && allBelow n ss
+
+unfoldable pub sortedFrom : ℕ → List Gate → Bool
+sortedFrom v [] = true
+sortedFrom v (g ∷ gs) = (isDff g || allBelow v (g .ins)) && sortedFrom (suc v) gs
+
+unfoldable pub isTopoSorted : Net → Bool
+isTopoSorted n = sortedFrom 0 (n .nodes)
+
+-- what every accepted image holds: the limits, each gate's shape, and each signal's
+pub record Valid (n : Net) : Type 0 where
+  pub inputs-few : n .inputs ≤ 1024
+  pub nodes-few : size n ≤ 512
+  pub outs-few : length (n .outs) ≤ 64
+  pub gates-shaped : allShaped (n .nodes) ≡ true
+  pub ins-few : fanin (n .nodes) ≤ 2048
+  pub signals : wired n ≡ true

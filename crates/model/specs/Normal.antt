@@ -8,8 +8,10 @@ use lib.Dec.{eqb, leb, ltb}
 use Rattle.kinds.specs.Kinds.{kindOf, codeOf}
 use Rattle.kinds.specs.declared.Kind.{Kind}
 use Rattle.kinds.specs.declared.Kind.the-variants.{And2, Xor2, And3, Xor3, Maj, Mux, AndN, OrN, NandN, NorN, XorN, XnorN, Buf, Dff, Lut}
-use Rattle.model.specs.Signal.{xor, isInverted, ind, flip, neg, withoutInversion, fromBool, isConstant}
-use Rattle.model.specs.Gate.{Gate, valueOf, signalValue, gateValue}
+use Rattle.laws.specs.Bools.{xor}
+use Rattle.model.specs.Signal.{isInverted, ind, flip, neg, withoutInversion, fromBool, isConstant}
+use Rattle.model.specs.Gate.{Gate}
+use Rattle.model.specs.Evaluate.{valueOf, signalValue, gateValue}
 
 pub data Norm : Type 0 where
   copied : ℕ → Norm

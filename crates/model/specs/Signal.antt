@@ -2,15 +2,7 @@
 use Prim.Native.Nat.{ℕ, zero, suc, _+_, _-_, _*_, _/_, _%_}
 use mathlib.Core.Bool.{Bool, true, false, not, cond}
 use lib.Dec.{eqb, ltb}
-
--- exclusive or; it computes as soon as the first argument is known
-abbrev pub xor : Bool → Bool → Bool
-xor false b = b
-xor true b = not b
-
-abbrev pub bit : Bool → ℕ
-bit false = 0
-bit true = 1
+use Rattle.laws.specs.Bools.{xor, bit}
 
 -- index k, inverted or not
 unfoldable pub wordOf : ℕ → Bool → ℕ

@@ -10,7 +10,8 @@ use lib.ListN.{length, getD}
 use lib.Dec.{eqb, ltb}
 use lib.Bits.{bitAnd, bitXor, and-mask, and-high, xor-step, xor-zero-r, differ}
 use borrow.Author.Tests.{eq-eqb, ne-eqb, lt-ltb, le-ltb, not-true, not-false}
-use Rattle.model.specs.Signal.{xor, wordOf, isInverted, flip, neg, withoutInversion, isInput, isConstant, remapOrder}
+use Rattle.laws.specs.Bools.{xor}
+use Rattle.model.specs.Signal.{wordOf, isInverted, flip, neg, withoutInversion, isInput, isConstant, remapOrder}
 use Rattle.model.proofs.Words.{plain-is, odd-inv, even-inv, neg-odd, neg-even, flip-false, remap-constant, remap-input, remap-var}
 use Rattle.signal.specs.Signals.{isVar, remapped}
 

@@ -1,32 +1,36 @@
--- Cases through a test, and identities of Booleans by table.
-use mathlib.Core.Path.{_≡_, refl, sym, subst}
-use mathlib.Core.Logic.{_≢_}
-use Prim.Native.Nat.{ℕ, _≤_, _<_}
-use native.Mathlib.Decide.{ℕ-discrete}
-use mathlib.Core.Bool.{Bool, true, false, not, cond, _&&_, _||_}
-use lib.Dec.{T, eqb, leb, leb→le, nleb→lt}
-use borrow.Author.Tests.{eq-eqb, ne-eqb, leb-true, leb-false}
-use Rattle.model.specs.Signal.{xor}
+-- Identities of Booleans: the exclusive or, the conjunction, and any identity by its table.
+use mathlib.Core.Path.{_≡_, refl}
+use mathlib.Core.Bool.{Bool, true, false, not, _&&_}
+use lib.Dec.{T}
+use Rattle.laws.specs.Bools.{xor}
 
--- ---- by cases through a test, for any claim on the chosen branch
+pub xor-false : (b : Bool) → xor b false ≡ b
+xor-false false = refl
+xor-false true = refl
 
-pub by-eq {ℓ} : {X : Type 0} (P : X → Type ℓ) (x y : ℕ) {a b : X} → (x ≡ y → P a) → (x ≢ y → P b) → P (cond (eqb x y) a b)
-by-eq P x y {a} {b} f g = elim (ℕ-discrete x y) [
-  | yes e ↦ subst (λ c. P (cond c a b)) (sym (eq-eqb x y e)) (f e)
-  | no e ↦ subst (λ c. P (cond c a b)) (sym (ne-eqb x y e)) (g e)
-]
+pub xor-assoc : (a b c : Bool) → xor (xor a b) c ≡ xor a (xor b c)
+xor-assoc false b c = refl
+xor-assoc true false c = refl
+xor-assoc true true false = refl
+xor-assoc true true true = refl
 
-pub by-or {ℓ} : {X : Type 0} (P : X → Type ℓ) (x y u w : ℕ) {a b : X} → (x ≡ y → P a) → (u ≡ w → P a) → P b → P (cond (eqb x y || eqb u w) a b)
-by-or P x y u w {a} {b} f g h = elim (ℕ-discrete x y) [
-  | yes e ↦ subst (λ c. P (cond (c || eqb u w) a b)) (sym (eq-eqb x y e)) (f e)
-  | no e ↦ subst (λ c. P (cond (c || eqb u w) a b)) (sym (ne-eqb x y e)) (by-eq P u w g (λ d. h))
-]
+pub xor-comm : (a b : Bool) → xor a b ≡ xor b a
+xor-comm false false = refl
+xor-comm false true = refl
+xor-comm true false = refl
+xor-comm true true = refl
 
-pub by-test {ℓ} : {X : Type 0} (P : X → Type ℓ) (t : Bool) {a b : X} → (t ≡ true → P a) → (t ≡ false → P b) → P (cond t a b)
-by-test P true f g = f refl
-by-test P false f g = g refl
+pub and-assoc : (a b c : Bool) → (a && b) && c ≡ a && (b && c)
+and-assoc true b c = refl
+and-assoc false b c = refl
 
--- ---- identities of Booleans, by table: `taut3 (λ a b c. ..) (λ a b c. ..) tt x y z`
+pub and-comm : (a b : Bool) → a && b ≡ b && a
+and-comm true true = refl
+and-comm true false = refl
+and-comm false true = refl
+and-comm false false = refl
+
+-- ---- by table: `taut3 (λ a b c. ..) (λ a b c. ..) tt x y z`
 
 abbrev pub same : Bool → Bool → Bool
 same true b = b
@@ -75,24 +79,3 @@ taut7 z c d e p true true = taut5 (λ z c d e p. xor (xor (xor (xor c d) e) z) (
 taut7 z c d e p true false = taut5 (λ z c d e p. xor (xor (xor (xor c d) e) z) (xor p (xor true false))) (λ z c d e p. xor z (xor (xor c p) (xor (xor d true) (xor e false)))) tt z c d e p
 taut7 z c d e p false true = taut5 (λ z c d e p. xor (xor (xor (xor c d) e) z) (xor p (xor false true))) (λ z c d e p. xor z (xor (xor c p) (xor (xor d false) (xor e true)))) tt z c d e p
 taut7 z c d e p false false = taut5 (λ z c d e p. xor (xor (xor (xor c d) e) z) (xor p (xor false false))) (λ z c d e p. xor z (xor (xor c p) (xor (xor d false) (xor e false)))) tt z c d e p
-
--- a test of three
-pub by-or3 {ℓ} : {X : Type 0} (P : X → Type ℓ) (x y u w p q : ℕ) {a b : X} → (x ≡ y → P a) → (u ≡ w → P a) → (p ≡ q → P a)
-    → (x ≢ y → u ≢ w → p ≢ q → P b) → P (cond (eqb x y || eqb u w || eqb p q) a b)
-by-or3 P x y u w p q {a} {b} f g k h = elim (ℕ-discrete x y) [
-  | yes e ↦ subst (λ c. P (cond (c || eqb u w || eqb p q) a b)) (sym (eq-eqb x y e)) (f e)
-  | no e ↦ subst (λ c. P (cond (c || eqb u w || eqb p q) a b)) (sym (ne-eqb x y e)) (elim (ℕ-discrete u w) [
-    | yes d ↦ subst (λ c. P (cond (c || eqb p q) a b)) (sym (eq-eqb u w d)) (g d)
-    | no d ↦ subst (λ c. P (cond (c || eqb p q) a b)) (sym (ne-eqb u w d)) (by-eq P p q k (λ c. h e d c))
-  ])
-]
-
--- a test that says what failed too
-pub by-or2 {ℓ} : {X : Type 0} (P : X → Type ℓ) (x y u w : ℕ) {a b : X} → (x ≡ y → P a) → (u ≡ w → P a) → (x ≢ y → u ≢ w → P b) → P (cond (eqb x y || eqb u w) a b)
-by-or2 P x y u w {a} {b} f g h = elim (ℕ-discrete x y) [
-  | yes e ↦ subst (λ c. P (cond (c || eqb u w) a b)) (sym (eq-eqb x y e)) (f e)
-  | no e ↦ subst (λ c. P (cond (c || eqb u w) a b)) (sym (ne-eqb x y e)) (by-eq P u w g (λ d. h e d))
-]
-
-pub by-le {ℓ} : {X : Type 0} (P : X → Type ℓ) (x y : ℕ) {a b : X} → (x ≤ y → P a) → (y < x → P b) → P (cond (leb x y) a b)
-by-le P x y f g = by-test P (leb x y) (λ e. f (leb-true x y e)) (λ e. g (leb-false x y e))

@@ -1,0 +1,5 @@
+pub mod Bools
+pub mod Choices
+pub mod Lists
+pub mod Tabs
+pub mod Parts

@@ -1,0 +1,18 @@
+-- Lists: a claim of every element, a list by a function, a part of a list.
+use Prim.Native.Nat.{ℕ, zero, suc}
+use mathlib.Core.List.{List, [], _∷_, _++_}
+use lib.ListN.{take, drop}
+
+-- P holds of each element
+abbrev pub All {ℓ} : {A : Type 0} → (A → Type ℓ) → List A → Type ℓ
+All P [] = Unit
+All P (x ∷ xs) = P x × All P xs
+
+-- f 0, f 1, .. f (n - 1)
+unfoldable pub tab : {A : Type 0} → (ℕ → A) → ℕ → List A
+tab f zero = []
+tab f (suc n) = tab f n ++ (f n ∷ [])
+
+-- elements i to n
+unfoldable pub part : List ℕ → ℕ → ℕ → List ℕ
+part l i n = drop i (take n l)
