@@ -5,8 +5,8 @@ use mathlib.Core.Logic.{_≢_, ⊎-elim}
 use mathlib.Core.List.{List, [], _∷_, _++_, map, map-append}
 use native.Mathlib.Nat.{eq-or-lt-of-le, le-of-suc-le-suc}
 use native.Mathlib.Omega.{arith}
-use lib.ListN.{length, getD, drop, length-append, List·getD-append}
-use lib.Seq.{getD-at, drop-cons}
+use lib.ListN.{length, getD, take, drop, length-append, List·getD-append}
+use lib.Seq.{getD-at, drop-cons, take-suc}
 use Rattle.laws.specs.Lists.{tab}
 
 module _ {A : Type 0} where
@@ -36,3 +36,8 @@ pub map-tab : {A B : Type 0} (g : A → B) (f : ℕ → A) (n : ℕ) → map g (
 unfolding tab
 map-tab g f zero = refl
 map-tab g f (suc n) = map-append g (tab f n) (f n ∷ []) ∙ ap (λ l. l ++ (g (f n) ∷ [])) (map-tab g f n)
+
+pub take-tab : (xs : List ℕ) (m : ℕ) → m ≤ length xs → take m xs ≡ tab (λ k. getD xs k 0) m
+unfolding tab
+take-tab xs zero h = refl
+take-tab xs (suc m) h = take-suc xs m 0 h ∙ ap (λ l. l ++ (getD xs m 0 ∷ [])) (take-tab xs m (omega arith))

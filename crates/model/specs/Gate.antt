@@ -25,9 +25,13 @@ pub record Net : Type 0 where
 abbrev pub isDff : Gate → Bool
 isDff g = isFlipFlop (kindOf (g .kind))
 
+-- the gate's remap: every signal put through f
+abbrev pub mapGate : (ℕ → ℕ) → Gate → Gate
+mapGate f g = record { kind = g .kind; ins = map f (g .ins); table = g .table }
+
 -- the gate's remap_order
 abbrev pub remapGate : (ℕ → ℕ) → Gate → Gate
-remapGate τ g = record { kind = g .kind; ins = map (remapOrder τ) (g .ins); table = g .table }
+remapGate τ g = mapGate (remapOrder τ) g
 
 -- what stands for a node that is not there
 abbrev pub noGate : Gate

@@ -1,0 +1,38 @@
+-- The gates that words hold, by their readings. Knows no place of a word.
+use Prim.Native.Nat.{ℕ, zero, suc, _+_, _*_, _^_, _≤_, _<_}
+use mathlib.Core.Path.{_≡_, refl, sym, ap, _∙_}
+use mathlib.Core.Logic.{_≢_, ⊎-elim}
+use mathlib.Core.List.{List, [], _∷_, _++_, map, map-append}
+use native.Mathlib.Nat.{eq-or-lt-of-le, le-of-suc-le-suc}
+use native.Mathlib.Omega.{arith}
+use lib.ListN.{length, getD, take, length-append, List·getD-append}
+use lib.Seq.{getD-at, take-suc}
+use Rattle.model.specs.Gate.{Gate, mapGate}
+use Rattle.laws.specs.Lists.{tab}
+use Rattle.laws.proofs.Tabs.{tab-ext, map-tab}
+use Rattle.tables.specs.Layout.{netSize, kindAt, firstAt, countAt, inputAt, lowAt, highAt, insAt, gateAt, putGate, putInput, putTable, putOutput}
+use Rattle.tables.proofs.Places.{kindAt-putGate, firstAt-putGate, countAt-putGate, kindAt-putGate-other, firstAt-putGate-other, countAt-putGate-other}
+use Rattle.tables.proofs.Places.{inputAt-putGate, lowAt-putGate, highAt-putGate}
+
+pub gate≡ : {g h : Gate} → g .kind ≡ h .kind → g .ins ≡ h .ins → g .table ≡ h .table → g ≡ h
+gate≡ p q r = λ i. record { kind = p i; ins = q i; table = r i }
+
+-- node w of l is node v of m with its inputs put through t, where each word is
+pub gateAt-by : (t : ℕ → ℕ) (l m : List ℕ) (w v : ℕ) → kindAt l w ≡ kindAt m v → countAt l w ≡ countAt m v
+    → ((j : ℕ) → j < countAt m v → inputAt l (firstAt l w + j) ≡ t (inputAt m (firstAt m v + j)))
+    → lowAt l w ≡ lowAt m v → highAt l w ≡ highAt m v → gateAt l w ≡ mapGate t (gateAt m v)
+unfolding gateAt insAt
+gateAt-by t l m w v k c i lo hi =
+    gate≡ k
+    (ap (λ n. tab (λ j. inputAt l (firstAt l w + j)) n) c ∙ tab-ext _ _ (countAt m v) i ∙ sym (map-tab t _ (countAt m v)))
+    (rw (lo, hi))
+
+-- the same with no translation
+pub gateAt-same : (l m : List ℕ) (w v : ℕ) → kindAt l w ≡ kindAt m v → countAt l w ≡ countAt m v
+    → ((j : ℕ) → j < countAt m v → inputAt l (firstAt l w + j) ≡ inputAt m (firstAt m v + j))
+    → lowAt l w ≡ lowAt m v → highAt l w ≡ highAt m v → gateAt l w ≡ gateAt m v
+unfolding gateAt insAt
+gateAt-same l m w v k c i lo hi =
+    gate≡ k
+    (ap (λ n. tab (λ j. inputAt l (firstAt l w + j)) n) c ∙ tab-ext _ _ (countAt m v) i)
+    (rw (lo, hi))
