@@ -5,7 +5,7 @@ use Prim.Native.Nat.{ℕ}
 use mathlib.Core.Bool.{Bool, cond, _&&_, _||_}
 use mathlib.Core.List.{List, [], _++_}
 use lib.ListN.{length, drop, replicate}
-use lib.Dec.{leb, ltb}
+use lib.Dec.{eqb, leb, ltb}
 use Rattle.answers.specs.declared.Answer.{Answer}
 use Rattle.answers.specs.declared.Answer.the-variants.{Accepted, Refused}
 
@@ -55,6 +55,10 @@ areaAfter a b l = cond (areasShort a b) l (cleared l)
 
 unfoldable pub inAreas : List ℕ → List ℕ → Outcome → Outcome
 inAreas a b o = cond (areasShort a b) (refused 1) o
+
+-- refused with a number, unless it is 0
+unfoldable pub unless : ℕ → Outcome → Outcome
+unless n o = cond (eqb n 0) o (refused n)
 
 -- 13: "a lent result buffer is shorter than the result"; the lengths lent for the image and for the mapping
 abbrev pub inRoom : ℕ → ℕ → Outcome → Outcome

@@ -67,26 +67,16 @@ fitsKind Lut n = leb n 6
 unfoldable pub fitsCode : ℕ → ℕ → Bool
 fitsCode code n = ltb code 15 && fitsKind (kindOf code) n
 
+-- a Lut's code
+abbrev pub isLut : ℕ → Bool
+isLut code = eqb code 14
+
 -- a Lut of n inputs has its table's bits 2^n and above zero; no other gate has a table
-unfoldable pub fitsTable : Kind → ℕ → ℕ → Bool
-fitsTable And2 n t = eqb t 0
-fitsTable Xor2 n t = eqb t 0
-fitsTable And3 n t = eqb t 0
-fitsTable Xor3 n t = eqb t 0
-fitsTable Maj n t = eqb t 0
-fitsTable Mux n t = eqb t 0
-fitsTable AndN n t = eqb t 0
-fitsTable OrN n t = eqb t 0
-fitsTable NandN n t = eqb t 0
-fitsTable NorN n t = eqb t 0
-fitsTable XorN n t = eqb t 0
-fitsTable XnorN n t = eqb t 0
-fitsTable Buf n t = eqb t 0
-fitsTable Dff n t = eqb t 0
-fitsTable Lut n t = ltb t (2 ^ (2 ^ n))
+unfoldable pub fitsTable : ℕ → ℕ → ℕ → Bool
+fitsTable code n t = cond (isLut code) (ltb t (2 ^ (2 ^ n))) (eqb t 0)
 
 unfoldable pub shaped : Gate → Bool
-shaped g = fitsCode (g .kind) (length (g .ins)) && fitsTable (kindOf (g .kind)) (length (g .ins)) (g .table)
+shaped g = fitsCode (g .kind) (length (g .ins)) && fitsTable (g .kind) (length (g .ins)) (g .table)
 
 unfoldable pub allShaped : List Gate → Bool
 allShaped [] = true
