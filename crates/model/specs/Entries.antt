@@ -2,9 +2,36 @@
 use Prim.Native.Nat.{ℕ}
 use mathlib.Core.List.{List, []}
 use lib.ListN.{length}
-use Rattle.model.specs.Image.{refusalOf, netOf, imageOf}
-use Rattle.model.specs.Answers.{Outcome, written, inAreas, inRoom, unless}
+use mathlib.Core.Bool.{cond}
+use Rattle.model.specs.Gate.{Net, size}
+use Rattle.model.specs.Normal.{makeCanonical}
+use Rattle.model.specs.Network.{translation, mappingOf, deduplicate, canonical, dedupMap, asIs, cleanupOrder, cleanup, topoOrder, topoSort, sorts}
+use Rattle.model.specs.Image.{refusalOf, sortedRefusalOf, netOf, imageOf}
+use Rattle.model.specs.Answers.{Outcome, written, refused, inAreas, inRoom, unless}
 
 -- read: 1; 2 to 6; 13. The image of what was read: the given one without its prefix
 unfoldable pub readOutcome : List ℕ → List ℕ → List ℕ → List ℕ → Outcome
 readOutcome img out a b = inAreas a b (inRoom (length out) 0 (unless (refusalOf img) (written (imageOf (netOf img)) [])))
+
+-- the entries that write a mapping too: image, out, map, a, b
+module _ (img out mapping a b : List ℕ) where
+  abbrev mapped : ℕ → (Net → Outcome) → Outcome
+  mapped n pass = inAreas a b (inRoom (length out) (length mapping) (unless n (pass (netOf img))))
+
+  -- canonical and dedup: 1; 2 to 7; 13
+  unfoldable pub canonicalOutcome : Outcome
+  canonicalOutcome = mapped (sortedRefusalOf img) (λ N. written (imageOf (canonical N)) (mappingOf (size N) (dedupMap makeCanonical N)))
+
+  unfoldable pub dedupOutcome : Outcome
+  dedupOutcome = mapped (sortedRefusalOf img) (λ N. written (imageOf (deduplicate N)) (mappingOf (size N) (dedupMap asIs N)))
+
+  -- cleanup: 1; 2 to 6; 13
+  unfoldable pub cleanupOutcome : Outcome
+  cleanupOutcome = mapped (refusalOf img) (λ N. written (imageOf (cleanup N)) (mappingOf (size N) (translation (size N) (cleanupOrder N))))
+
+  -- sort: 1; 2 to 6; 8, "a combinational loop"; 13
+  unfoldable pub sortOutcome : Outcome
+  sortOutcome =
+      mapped (refusalOf img) (λ N. cond (sorts N)
+      (written (imageOf (topoSort N)) (mappingOf (size N) (translation (size N) (topoOrder N))))
+      (refused 8))
