@@ -1,5 +1,6 @@
--- Lists: a claim of every element, a list by a function, a part of a list.
+-- Lists: a claim of every element, a list by a function, a test of some number, a part of a list.
 use Prim.Native.Nat.{ℕ, zero, suc}
+use mathlib.Core.Bool.{Bool, false, _||_}
 use mathlib.Core.List.{List, [], _∷_, _++_}
 use lib.ListN.{take, drop}
 
@@ -12,6 +13,11 @@ All P (x ∷ xs) = P x × All P xs
 unfoldable pub tab : {A : Type 0} → (ℕ → A) → ℕ → List A
 tab f zero = []
 tab f (suc n) = tab f n ++ (f n ∷ [])
+
+-- f holds of one of 0 .. n - 1
+unfoldable pub someBelow : (ℕ → Bool) → ℕ → Bool
+someBelow f zero = false
+someBelow f (suc n) = someBelow f n || f n
 
 -- elements i to n
 unfoldable pub part : List ℕ → ℕ → ℕ → List ℕ

@@ -7,11 +7,21 @@ use Rattle.model.specs.Gate.{Net, size}
 use Rattle.model.specs.Normal.{makeCanonical}
 use Rattle.model.specs.Network.{translation, mappingOf, deduplicate, canonical, dedupMap, asIs, cleanupOrder, cleanup, topoOrder, topoSort, sorts}
 use Rattle.model.specs.Image.{refusalOf, sortedRefusalOf, netOf, imageOf}
-use Rattle.model.specs.Answers.{Outcome, written, refused, inAreas, inRoom, unless}
+use Rattle.model.specs.Evaluate.{outputBytes, stateBytes, cycleRefusal}
+use Rattle.model.specs.Answers.{Outcome, refused, written, evaluated, inAreas, inRoom, unless}
 
 -- read: 1; 2 to 6; 13. The image of what was read: the given one without its prefix
 unfoldable pub readOutcome : List ℕ → List ℕ → List ℕ → List ℕ → Outcome
 readOutcome img out a b = inAreas a b (inRoom (length out) 0 (unless (refusalOf img) (written (imageOf (netOf img)) [])))
+
+-- a cycle of a network, in bytes
+unfoldable pub evaluatedOf : Net → List ℕ → List ℕ → Outcome
+evaluatedOf N inputs state = evaluated (outputBytes N inputs state) (stateBytes N inputs state)
+
+-- evaluate: 1; 2 to 7; 13; 14. One cycle: the outputs' bytes, and the state's bytes for all nodes
+unfoldable pub evaluateOutcome : List ℕ → List ℕ → List ℕ → List ℕ → List ℕ → List ℕ → Outcome
+evaluateOutcome img inputs state out a b =
+    inAreas a b (unless (sortedRefusalOf img) (unless (cycleRefusal (netOf img) inputs state (length out)) (evaluatedOf (netOf img) inputs state)))
 
 -- the entries that write a mapping too: image, out, map, a, b
 module _ (img out mapping a b : List ℕ) where
