@@ -2,10 +2,12 @@
 use Prim.Native.Nat.{ℕ}
 use mathlib.Core.List.{List, []}
 use lib.ListN.{length}
+use lib.Dec.{ltb}
 use mathlib.Core.Bool.{cond}
 use Rattle.model.specs.Gate.{Net, size}
 use Rattle.model.specs.Normal.{makeCanonical}
 use Rattle.model.specs.Network.{translation, mappingOf, deduplicate, canonical, dedupMap, asIs, cleanupOrder, cleanup, topoOrder, topoSort, sorts}
+use Rattle.model.specs.Sharing.{flattenNary, flattenedInputs, factorNary, factorRefusal, anyRepeats, shareLogic}
 use Rattle.model.specs.Image.{refusalOf, sortedRefusalOf, netOf, imageOf}
 use Rattle.model.specs.Evaluate.{outputBytes, stateBytes, cycleRefusal}
 use Rattle.model.specs.Answers.{Outcome, refused, written, evaluated, inAreas, inRoom, unless}
@@ -45,3 +47,25 @@ module _ (img out mapping a b : List ℕ) where
       mapped (refusalOf img) (λ N. cond (sorts N)
       (written (imageOf (topoSort N)) (mappingOf (size N) (translation (size N) (topoOrder N))))
       (refused 8))
+
+-- the entries that write an image alone: image, out, a, b
+module _ (img out a b : List ℕ) where
+  abbrev imaged : (Net → Outcome) → Outcome
+  imaged pass = inAreas a b (inRoom (length out) 0 (unless (sortedRefusalOf img) (pass (netOf img))))
+
+  -- 10: "gate inputs after flattening, before cleanup, pass 2,048"
+  abbrev flatRefusal : Net → ℕ → ℕ
+  flatRefusal N limit = cond (ltb 2048 (flattenedInputs N limit)) 10 0
+
+  -- flatten: 1; 2 to 7; 10; 13
+  unfoldable pub flattenOutcome : ℕ → Outcome
+  flattenOutcome limit = imaged (λ N. unless (flatRefusal N limit) (written (imageOf (flattenNary N limit)) []))
+
+  -- factor: 1; 2 to 7; 9; 11 and 12; 13
+  unfoldable pub factorOutcome : Outcome
+  factorOutcome = imaged (λ N. unless (cond (anyRepeats (N .nodes)) 9 0) (unless (factorRefusal N) (written (imageOf (factorNary N)) [])))
+
+  -- share: 1; 2 to 7; 10; 11 and 12; 13
+  unfoldable pub shareOutcome : ℕ → Outcome
+  shareOutcome limit =
+      imaged (λ N. unless (flatRefusal N limit) (unless (factorRefusal (flattenNary N limit)) (written (imageOf (shareLogic N limit)) [])))
