@@ -1,4 +1,5 @@
--- Lists: a claim of every element, a list by a function, a test of some number, a part of a list.
+-- Lists: a claim of every element, no repeats, a list by a function, a test of some number, a part of a list.
+use mathlib.Core.Logic.{_≢_}
 use Prim.Native.Nat.{ℕ, zero, suc}
 use mathlib.Core.Bool.{Bool, false, _||_}
 use mathlib.Core.List.{List, [], _∷_, _++_}
@@ -8,6 +9,14 @@ use lib.ListN.{take, drop}
 abbrev pub All {ℓ} : {A : Type 0} → (A → Type ℓ) → List A → Type ℓ
 All P [] = Unit
 All P (x ∷ xs) = P x × All P xs
+
+-- x is not in l, and no element of l is there twice
+abbrev pub Fresh : ℕ → List ℕ → Type 0
+Fresh x l = All (λ y. y ≢ x) l
+
+abbrev pub Distinct : List ℕ → Type 0
+Distinct [] = Unit
+Distinct (x ∷ xs) = Fresh x xs × Distinct xs
 
 -- f 0, f 1, .. f (n - 1)
 unfoldable pub tab : {A : Type 0} → (ℕ → A) → ℕ → List A
