@@ -7,7 +7,7 @@ use native.Mathlib.Omega.{arith}
 use mathlib.Core.Bool.{Bool, true, false, _&&_, _||_}
 use mathlib.Core.List.{List, [], _∷_, map}
 use lib.ListN.{length, getD}
-use borrow.Author.Tests.{ltb-true}
+use borrow.Author.Tests.{ltb-true, lt-ltb}
 use Rattle.laws.specs.Bools.{xor}
 use Rattle.laws.specs.Lists.{All}
 use Rattle.laws.proofs.Bools.{and-left, and-right}
@@ -103,6 +103,34 @@ sorted-from v (g ∷ gs) e (suc n) h d =
 pub sorted : (N : Net) → isTopoSorted N ≡ true → Sorted N
 unfolding isTopoSorted
 sorted N e n h d = let q : 0 + n ≡ n = omega arith in rw q at (sorted-from 0 (N .nodes) e n h d)
+
+-- and back: the test holds of a sorted network
+in-below : (n : ℕ) (l : List ℕ) → In (λ m. m < n) l → allBelow n l ≡ true
+unfolding allBelow
+in-below n [] h = refl
+in-below n (s ∷ l) h = rw (names-below (ref s) refl) (in-below n l (h .1))
+  where
+    names-below : (r : Ref) → ref s ≡ r → belowRef n r ≡ true
+    names-below rzero e = refl
+    names-below (rnode m) e = lt-ltb m n (h .0 m e)
+    names-below (rinput k) e = refl
+
+from-sorted : (v : ℕ) (gs : List Gate)
+    → ((n : ℕ) → n < length gs → isDff (getD gs n noGate) ≡ false → In (λ m. m < v + n) (getD gs n noGate .ins)) → sortedFrom v gs ≡ true
+unfolding sortedFrom
+from-sorted v [] h = refl
+from-sorted v (g ∷ gs) h = rw (head (isDff g) refl) (from-sorted (suc v) gs (λ n l d. rw (shift n) at (h (suc n) (omega arith) d)))
+  where
+    shift : (n : ℕ) → v + suc n ≡ suc v + n
+    shift n = omega arith
+
+    head : (b : Bool) → isDff g ≡ b → (b || allBelow v (g .ins)) ≡ true
+    head true e = refl
+    head false e = let q : v + 0 ≡ v = omega arith in in-below v (g .ins) (rw q at (h 0 (omega arith) e))
+
+pub sorted-test : (N : Net) → Sorted N → isTopoSorted N ≡ true
+unfolding isTopoSorted
+sorted-test N h = from-sorted 0 (N .nodes) (λ n l d. let q : 0 + n ≡ n = omega arith in rw q (h n l d))
 
 -- the inputs of each gate, and the outputs, name nodes of the network
 named-gate : (i k : ℕ) (gs : List Gate) → gatesNamed i k gs ≡ true → (n : ℕ) → n < length gs → allNamed i k (getD gs n noGate .ins) ≡ true

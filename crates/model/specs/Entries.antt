@@ -1,6 +1,6 @@
 -- Each entry's outcome, by the order of document 01's table: from the image, what else is lent, and the areas.
 use Prim.Native.Nat.{ℕ}
-use mathlib.Core.List.{List, []}
+use mathlib.Core.List.{List, [], _∷_}
 use lib.ListN.{length}
 use lib.Dec.{ltb}
 use mathlib.Core.Bool.{cond}
@@ -10,7 +10,7 @@ use Rattle.model.specs.Network.{translation, mappingOf, deduplicate, can
 use Rattle.model.specs.Sharing.{flattenNary, flattenedInputs, factorNary, factorRefusal, anyRepeats, shareLogic}
 use Rattle.model.specs.Image.{refusalOf, sortedRefusalOf, netOf, imageOf}
 use Rattle.model.specs.Evaluate.{outputBytes, stateBytes, cycleRefusal}
-use Rattle.model.specs.Answers.{Outcome, refused, written, evaluated, inAreas, inRoom, unless}
+use Rattle.model.specs.Answers.{Outcome, refused, written, evaluated, resultAfter, secondAfter, areaAfter, inAreas, inRoom, unless}
 
 -- read: 1; 2 to 6; 13. The image of what was read: the given one without its prefix
 unfoldable pub readOutcome : List ℕ → List ℕ → List ℕ → List ℕ → Outcome
@@ -24,6 +24,13 @@ evaluatedOf N inputs state = evaluated (outputBytes N inputs state) (stateBytes 
 unfoldable pub evaluateOutcome : List ℕ → List ℕ → List ℕ → List ℕ → List ℕ → List ℕ → Outcome
 evaluateOutcome img inputs state out a b =
     inAreas a b (unless (sortedRefusalOf img) (unless (cycleRefusal (netOf img) inputs state (length out)) (evaluatedOf (netOf img) inputs state)))
+
+-- calls of evaluate, one for each vector of input bytes, each with what the call before left in the buffers and the areas
+unfoldable pub calls : List ℕ → List (List ℕ) → List ℕ → List ℕ → List ℕ → List ℕ → List Outcome
+calls img [] state out a b = []
+calls img (x ∷ xs) state out a b =
+    let o = evaluateOutcome img x state out a b in
+    o ∷ calls img xs (secondAfter o state) (resultAfter o out) (areaAfter a b a) (areaAfter a b b)
 
 -- the entries that write a mapping too: image, out, map, a, b
 module _ (img out mapping a b : List ℕ) where

@@ -129,9 +129,12 @@ runFromZero N is = run N allZero is
 
 -- ---- a cycle in bytes: a byte per input, a state byte per node, a byte per output
 
--- the truth values of bytes
+-- a byte's truth value, and the truth values of bytes
+abbrev pub truth : ℕ → Bool
+truth b = eqb b 1
+
 abbrev pub truths : List ℕ → ℕ → Bool
-truths l k = eqb (getD l k 0) 1
+truths l k = truth (getD l k 0)
 
 -- the nodes' values in the cycle
 unfoldable pub cycleValues : Net → List ℕ → List ℕ → ℕ → Bool
