@@ -7,6 +7,7 @@ use native.Mathlib.Omega.{arith}
 use mathlib.Core.Bool.{Bool, true, false, _&&_, _||_}
 use mathlib.Core.List.{List, [], _∷_, map}
 use lib.ListN.{length, getD}
+use lib.Dec.{ltb}
 use borrow.Author.Tests.{ltb-true, lt-ltb}
 use Rattle.laws.specs.Bools.{xor}
 use Rattle.laws.specs.Lists.{All}
@@ -76,7 +77,7 @@ below-in n (s ∷ l) e = (below-names n s (and-left _ _ e), below-in n l (and-ri
 
 pub named-names : (i n s : ℕ) → named i n s ≡ true → Names (λ m. m < n) s
 unfolding named
-named-names i n s e m f = ltb-true m n (rw f at e)
+named-names i n s e m f = ltb-true m n (rw f at (and-right (ltb s 4294967296) (namedRef i n (ref s)) e))
 
 pub named-in : (i n : ℕ) (l : List ℕ) → allNamed i n l ≡ true → In (λ m. m < n) l
 unfolding allNamed
