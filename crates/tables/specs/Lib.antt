@@ -1,2 +1,4 @@
 -- What the contracts of `tables` cite.
 pub mod Layout
+pub mod Building
+pub mod Holding
