@@ -2,6 +2,7 @@
 use mathlib.Core.Path.{_≡_, refl, sym, subst}
 use mathlib.Core.Logic.{_≢_}
 use Prim.Native.Nat.{ℕ, _≤_, _<_}
+use native.Mathlib.Omega.{arith}
 use native.Mathlib.Decide.{ℕ-discrete}
 use mathlib.Core.Bool.{Bool, true, false, cond, _||_}
 use lib.Dec.{eqb, leb}
@@ -11,6 +12,10 @@ use borrow.Author.Tests.{eq-eqb, ne-eqb, leb-true, leb-false}
 pub by-bool {ℓ} : {X : Type ℓ} (b : Bool) → (b ≡ true → X) → (b ≡ false → X) → X
 by-bool true f g = f refl
 by-bool false f g = g refl
+
+-- no test is both
+pub clash {ℓ} : {X : Type ℓ} {b : Bool} → b ≡ true → b ≡ false → X
+clash p q = let z : _≡_ {A = ℕ} 0 1 = cc in absurd (omega arith)
 
 pub by-eq {ℓ} : {X : Type 0} (P : X → Type ℓ) (x y : ℕ) {a b : X} → (x ≡ y → P a) → (x ≢ y → P b) → P (cond (eqb x y) a b)
 by-eq P x y {a} {b} f g = elim (ℕ-discrete x y) [

@@ -15,7 +15,9 @@ use Rattle.model.specs.Gate.{Gate, Net, isDff, noGate, gateAt, size, wired, isT
 use Rattle.model.specs.Evaluate.{at, signalValue, nextState, Consistent, outputs, next, evaluate, Eval, Solves, runBy, run, runFromZero}
 use Rattle.model.proofs.Names.{Names, In, values-cong, Sorted, sorted, wired-ins, wired-out}
 use Rattle.model.proofs.Forward.{evaluate-consistent, evaluate-sorted}
-use Rattle.meaning.proofs.Valuations.{Ranked, agree, sorted-ranked}
+use Rattle.shape.specs.Forms.{Ranked}
+use Rattle.shape.proofs.Sort.{sorted-ranked}
+use Rattle.meaning.proofs.Valuations.{agree}
 use Rattle.meaning.proofs.Simulation.{Carries, same-from-zero}
 
 -- beyond the nodes there is no flip-flop

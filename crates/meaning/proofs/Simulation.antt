@@ -11,8 +11,9 @@ use Rattle.model.specs.Gate.{Gate, Net, isDff, remapGate, gateAt, size}
 use Rattle.model.specs.Evaluate.{at, valueOf, signalValue, gateValue, nextState, Consistent, outputs, next, Eval, Solves, runBy, afterBy, allZero}
 use Rattle.model.proofs.Names.{In, values-cong}
 use Rattle.model.proofs.Forward.{shows-dff, shows-comb}
+use Rattle.shape.specs.Forms.{Ranked}
 use Rattle.meaning.proofs.Values.{value-zero}
-use Rattle.meaning.proofs.Valuations.{value-node, pull, value-remap, values-remap, Ranked, ConsistentOn, agree}
+use Rattle.meaning.proofs.Valuations.{value-node, pull, value-remap, values-remap, ConsistentOn, agree}
 
 -- ---- what a pass owes
 

@@ -7,13 +7,15 @@ use mathlib.Core.Bool.{Bool, true, false}
 use mathlib.Core.List.{List, [], _∷_, map, map-map}
 use Rattle.laws.specs.Bools.{xor}
 use Rattle.laws.proofs.Choices.{by-bool}
-use Rattle.laws.proofs.Lists.{all-map, map-cong}
+use Rattle.laws.proofs.Lists.{map-cong}
 use Rattle.model.specs.Signal.{Ref, rzero, rnode, rinput, isInverted, ref, fromVar, remapOrder, remapRef}
 use Rattle.model.specs.Gate.{Gate, Net, isDff, gateAt, size, isTopoSorted}
 use Rattle.model.specs.Evaluate.{refValue, signalValue, gateValue, shows, Consistent, evaluate}
 use Rattle.model.proofs.Words.{node-ref, node-inv}
-use Rattle.model.proofs.Names.{In, Sorted, sorted}
+use Rattle.model.proofs.Names.{sorted}
 use Rattle.model.proofs.Forward.{shows-dff, shows-comb, gate-cong, evaluate-sorted}
+use Rattle.shape.specs.Forms.{Ranked}
+use Rattle.shape.proofs.Sort.{sorted-ranked}
 use Rattle.meaning.proofs.Values.{value-flip}
 
 pub value-node : (i v : ℕ → Bool) (n : ℕ) → n < 1073741823 → signalValue i v (fromVar n) ≡ v n
@@ -38,11 +40,6 @@ values-remap i v τ l = map-map (signalValue i v) (remapOrder τ) l ∙ map-cong
 
 -- ---- without a combinational loop
 
--- within the nodes K, combinational gates name lower ranks of K only
-pub record Ranked (N : Net) (K : ℕ → Type 0) : Type 0 where
-  pub rank : ℕ → ℕ
-  pub below : (n : ℕ) → K n → isDff (gateAt N n) ≡ false → In (λ m. K m × (rank m < rank n)) (gateAt N n .ins)
-
 -- every gate of K agrees
 abbrev pub ConsistentOn : (ℕ → Type 0) → Net → (ℕ → Bool) → (ℕ → Bool) → (ℕ → Bool) → Type 0
 ConsistentOn K N i st v = (n : ℕ) → K n → v n ≡ shows i v (gateAt N n) (st n)
@@ -62,13 +59,6 @@ agree N K R i st v w cv cw n k = go (suc (R .rank n)) n (le-refl _) k
         ∙ shows-comb i v (gateAt N m) (st m) e
         ∙ gate-cong i v w (gateAt N m) (λ x. K x × (R .rank x < R .rank m)) (R .below m k′ e) (λ x p. go f x (omega arith) (p .0))
         ∙ sym (cw m k′ ∙ shows-comb i w (gateAt N m) (st m) e))
-
--- a sorted network is ranked by its numbers
-pub sorted-ranked : (N : Net) → Sorted N → Ranked N (λ n. n < size N)
-sorted-ranked N s = record {
-  rank = λ n. n;
-  below = λ n h e. all-map (gateAt N n .ins) (λ a f m q. (let l = f m q in omega arith, f m q)) (s n h e);
-}
 
 -- ON A SORTED NETWORK the forward pass gives the only values that every gate agrees with
 pub forward-agrees : (N : Net) → isTopoSorted N ≡ true → (i st : ℕ → Bool) → Consistent N i st (evaluate N i st)

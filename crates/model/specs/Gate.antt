@@ -1,10 +1,11 @@
 -- Gates and networks (document 01, "Signals and gates"; network.rs): what is valid, and what is sorted.
 use mathlib.Core.Path.{_≡_}
 use Prim.Native.Nat.{ℕ, suc, _+_, _^_, _≤_}
-use mathlib.Core.Bool.{Bool, true, false, cond, _&&_, _||_}
+use mathlib.Core.Bool.{Bool, true, false, not, cond, _&&_, _||_}
 use mathlib.Core.List.{List, [], _∷_, map}
 use lib.ListN.{length, getD}
 use lib.Dec.{eqb, leb, ltb}
+use Rattle.laws.specs.Bools.{bit}
 use Rattle.kinds.specs.Kinds.{kindOf, isFlipFlop}
 use Rattle.kinds.specs.declared.Kind.{Kind}
 use Rattle.kinds.specs.declared.Kind.the-variants.{And2, Xor2, And3, Xor3, Maj, Mux, AndN, OrN, NandN, NorN, XorN, XnorN, Buf, Dff, Lut}
@@ -88,6 +89,11 @@ allShaped (g ∷ gs) = shaped g && allShaped gs
 unfoldable pub fanin : List Gate → ℕ
 fanin [] = 0
 fanin (g ∷ gs) = length (g .ins) + fanin gs
+
+-- the combinational gates
+unfoldable pub combs : List Gate → ℕ
+combs [] = 0
+combs (g ∷ gs) = bit (not (isDff g)) + combs gs
 
 -- is_valid: a signal is a 32-bit word that names a constant, one of the inputs or one of the nodes
 abbrev pub namedRef : ℕ → ℕ → Ref → Bool

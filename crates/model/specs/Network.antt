@@ -275,3 +275,18 @@ pub record Loop (N : Net) : Type 0 where
   pub holds : set first ≡ true
   pub comb : (v : ℕ) → set v ≡ true → (v < size N) × (isD N v ≡ false)
   pub named : (v : ℕ) → set v ≡ true → (u : ℕ) × (set u ≡ true) × (has v (deps N u) ≡ true)
+
+-- the same as a path that returns (shape proves that the two agree): combinational gate v names node u
+pub record Feeds (N : Net) (u v : ℕ) : Type 0 where
+  pub node : v < size N
+  pub comb : isD N v ≡ false
+  pub names : has u (deps N v) ≡ true
+
+-- from node u through combinational gates to gate v
+pub data Path (N : Net) : ℕ → ℕ → Type 0 where
+  wire : {u v : ℕ} → Feeds N u v → Path N u v
+  onward : {u v w : ℕ} → Path N u v → Feeds N v w → Path N u w
+
+pub record Cycle (N : Net) : Type 0 where
+  pub node : ℕ
+  pub path : Path N node node

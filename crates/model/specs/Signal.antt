@@ -1,6 +1,6 @@
 -- Signals (document 01, "Signals and gates"; signal.rs): a word whose bit 0 is inversion and whose rest is the index.
 use Prim.Native.Nat.{ℕ, zero, suc, _+_, _-_, _*_, _/_, _%_}
-use mathlib.Core.Bool.{Bool, true, false, not, cond}
+use mathlib.Core.Bool.{Bool, true, false, not, cond, _&&_}
 use lib.Dec.{eqb, ltb}
 use Rattle.laws.specs.Bools.{xor, bit}
 
@@ -45,6 +45,10 @@ isInput s = not (ltb s 2147483648)
 
 abbrev pub isConstant : ℕ → Bool
 isConstant s = eqb (s / 2) 0
+
+-- is_var: a node's, neither an input's nor a constant
+unfoldable pub isVar : ℕ → Bool
+isVar s = not (isInput s) && not (isConstant s)
 
 -- ---- what an index names
 

@@ -11,9 +11,9 @@ use lib.Dec.{eqb, ltb}
 use lib.Bits.{bitAnd, bitXor, and-mask, and-high, xor-step, xor-zero-r, differ}
 use borrow.Author.Tests.{eq-eqb, ne-eqb, lt-ltb, le-ltb, not-true, not-false}
 use Rattle.laws.specs.Bools.{xor}
-use Rattle.model.specs.Signal.{wordOf, isInverted, flip, neg, withoutInversion, isInput, isConstant, remapOrder}
+use Rattle.model.specs.Signal.{wordOf, isInverted, flip, neg, withoutInversion, isInput, isConstant, isVar, remapOrder}
 use Rattle.model.proofs.Words.{plain-is, odd-inv, even-inv, neg-odd, neg-even, flip-false, remap-constant, remap-input, remap-var}
-use Rattle.signal.specs.Signals.{isVar, remapped}
+use Rattle.signal.specs.Signals.{remapped}
 
 pub mask-input : (s : ℕ) → s < 4294967296 → not (eqb (bitAnd s 2147483648) 0) ≡ isInput s
 mask-input s h =
@@ -57,6 +57,7 @@ xor-false s b e = rw e (sym (flip-false s))
 
 -- what `is_var` tells
 pub var-low : (s : ℕ) (t : Bool) → t ≡ isVar s → not t ≡ false → 2 ≤ s
+unfolding isVar
 var-low s t e f = elim (ℕ-discrete (s / 2) 0) [
   | yes h ↦ let z : isVar s ≡ false = rw (eq-eqb (s / 2) 0 h) (and-f (not (isInput s))) in clash (sym (not-false t f) ∙ e ∙ z)
   | no h ↦ omega arith
@@ -70,6 +71,7 @@ var-low s t e f = elim (ℕ-discrete (s / 2) 0) [
     clash q = let z : _≡_ {A = ℕ} 0 1 = cc in absurd (omega arith)
 
 pub var-high : (s : ℕ) (t : Bool) → t ≡ isVar s → not t ≡ false → s < 2147483648
+unfolding isVar
 var-high s t e f = elim (decLt s 2147483648) [
   | yes h ↦ h
   | no h ↦ let z : isVar s ≡ false = rw (le-ltb s 2147483648 (omega arith)) in clash (sym (not-false t f) ∙ e ∙ z)
@@ -79,6 +81,7 @@ var-high s t e f = elim (decLt s 2147483648) [
     clash q = let z : _≡_ {A = ℕ} 0 1 = cc in absurd (omega arith)
 
 pub remap-stays : (s : ℕ) (t : List ℕ) (b : Bool) → b ≡ isVar s → not b ≡ true → s ≡ remapped t s
+unfolding isVar
 remap-stays s t b e f = elim (ℕ-discrete (s / 2) 0) [
   | yes h ↦ sym (remap-constant (λ v. getD t v 0) s h)
   | no h ↦ elim (decLt s 2147483648) [

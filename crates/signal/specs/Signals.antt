@@ -1,12 +1,8 @@
 -- What the signal's functions say beside the model.
-use Prim.Native.Nat.{ℕ, _-_, _/_}
-use mathlib.Core.Bool.{Bool, not, _&&_}
+use Prim.Native.Nat.{ℕ}
 use mathlib.Core.List.{List}
 use lib.ListN.{getD}
-use Rattle.model.specs.Signal.{isInput, isConstant, remapOrder}
-
-abbrev pub isVar : ℕ → Bool
-isVar s = not (isInput s) && not (isConstant s)
+use Rattle.model.specs.Signal.{remapOrder}
 
 -- remap through a translation that is a list
 abbrev pub remapped : List ℕ → ℕ → ℕ

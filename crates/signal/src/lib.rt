@@ -4,8 +4,8 @@ ghost use mathlib.Core.Bool.{not};
 ghost use Prim.Native.Nat.{ℕ, suc, _+_, _-_, _*_, _/_, _%_, _≤_, _<_};
 ghost use lib.ListN.{length, getD};
 ghost use lib.Dec.{ltb, leb, eqb};
-ghost use Rattle.model.specs.Signal.{isInverted, flip, neg, withoutInversion, fromBool, fromVar, fromInput, isInput, isConstant};
-ghost use Rattle.signal.specs.Signals.{isVar, remapped};
+ghost use Rattle.model.specs.Signal.{isInverted, flip, neg, withoutInversion, fromBool, fromVar, fromInput, isInput, isConstant, isVar};
+ghost use Rattle.signal.specs.Signals.{remapped};
 
 pub struct Signal {
     pub a: u32,

@@ -1,0 +1,9 @@
+-- Theorems about the form of networks, leaves first.
+pub mod Sums
+pub mod Members
+pub mod Wires
+pub mod Remap
+pub mod Search
+pub mod Sort
+pub mod Loops
+pub mod Cleanup
