@@ -7,3 +7,8 @@ pub mod Search
 pub mod Sort
 pub mod Loops
 pub mod Cleanup
+pub mod Named
+pub mod DedupNormal
+pub mod DedupPlace
+pub mod DedupSweep
+pub mod Dedup

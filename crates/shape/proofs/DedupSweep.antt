@@ -1,0 +1,234 @@
+-- The two sweeps of dedup, flip-flops and then gates, as one: an induction over both, and what the new nodes weigh.
+use mathlib.Core.Path.{_≡_, refl, sym, ap, _∙_, subst}
+use mathlib.Core.Logic.{_⊎_, inl, inr}
+use Prim.Native.Nat.{ℕ, zero, suc, _+_, _≤_, _<_}
+use native.Mathlib.Nat.{le-refl}
+use native.Mathlib.Omega.{arith}
+use native.Mathlib.Decide.{ℕ-discrete}
+use mathlib.Core.Bool.{Bool, true, false, not, cond}
+use mathlib.Core.List.{List, [], _∷_, _++_, map}
+use lib.ListN.{length, getD, length-map}
+use Rattle.laws.specs.Bools.{bit}
+use Rattle.laws.specs.Lists.{All}
+use Rattle.laws.proofs.Choices.{by-bool}
+use Rattle.model.specs.Signal.{flip, remapOrder}
+use Rattle.model.specs.Gate.{Gate, Net, isDff, remapGate, noGate, gateAt, size, fitsCode, fitsTable, shaped, allShaped, fanin}
+use Rattle.model.specs.Normal.{Norm, copied, made}
+use Rattle.model.specs.Network.{sumTo, Work, dedupNode, dedupDffs, dedupCombs}
+use Rattle.shape.proofs.Named.{shaped-at}
+use Rattle.shape.proofs.DedupNormal.{Closed, Form, Fit, NormLaw}
+use Rattle.shape.proofs.DedupPlace.{Grown, same, more, grown}
+
+-- ---- weights of lists of gates
+
+abbrev pub total : (Gate → ℕ) → List Gate → ℕ
+total w [] = 0
+total w (g ∷ gs) = w g + total w gs
+
+pub total-snoc : (w : Gate → ℕ) (l : List Gate) (g : Gate) → total w (l ++ (g ∷ [])) ≡ total w l + w g
+total-snoc w [] g = omega arith
+total-snoc w (h ∷ l) g = let e = total-snoc w l g in omega arith
+
+pub fanin-total : (l : List Gate) → fanin l ≡ total (λ g. length (g .ins)) l
+unfolding fanin
+fanin-total [] = refl
+fanin-total (g ∷ l) = ap (λ n. length (g .ins) + n) (fanin-total l)
+
+pub length-total : (l : List Gate) → length l ≡ total (λ g. 1) l
+length-total [] = refl
+length-total (g ∷ l) = let e = length-total l in omega arith
+
+-- a combinational gate weighs one
+abbrev pub combOf : Gate → ℕ
+combOf g = bit (not (isDff g))
+
+sum-suc : (f : ℕ → ℕ) (k : ℕ) → sumTo f (suc k) ≡ f 0 + sumTo (λ i. f (suc i)) k
+sum-suc f zero = omega arith
+sum-suc f (suc k) = let e = sum-suc f k in omega arith
+
+total-sum : (w : Gate → ℕ) (l : List Gate) → sumTo (λ i. w (getD l i noGate)) (length l) ≡ total w l
+total-sum w [] = refl
+total-sum w (g ∷ l) = sum-suc (λ i. w (getD (g ∷ l) i noGate)) (length l) ∙ ap (λ n. w g + n) (total-sum w l)
+
+pub shaped-remap : (τ : ℕ → ℕ) (g : Gate) → shaped (remapGate τ g) ≡ shaped g
+unfolding shaped
+shaped-remap τ g = rw (length-map (g .ins) (remapOrder τ))
+
+sum-mono : (f : ℕ → ℕ) (j k : ℕ) → j ≤ k → sumTo f j ≤ sumTo f k
+sum-mono f j zero h = let e : j ≡ 0 = omega arith in rw e (le-refl _)
+sum-mono f j (suc k) h = elim (ℕ-discrete j (suc k)) [
+  | yes e ↦ rw e (le-refl _)
+  | no e ↦ let m = sum-mono f j k (omega arith) in omega arith
+]
+
+module _ (norm : Gate → Norm) (N : Net) where
+  abbrev pub isD : ℕ → Bool
+  isD n = isDff (gateAt N n)
+
+  -- the gate that is looked up for node n: a flip-flop by its old signals, a gate by its translated ones
+  abbrev pub askedGate : (ℕ → ℕ) → ℕ → Gate
+  askedGate τ n = cond (isD n) (gateAt N n) (remapGate τ (gateAt N n))
+
+  abbrev pub asked : (ℕ → ℕ) → ℕ → Norm
+  asked τ n = norm (askedGate τ n)
+
+  -- before node k, in the sweep over flip-flops or in that over gates
+  abbrev pub upTo : Bool → ℕ → Work
+  upTo true k = dedupDffs norm N k
+  upTo false k = dedupCombs norm N k
+
+  pub upTo-turn : (b : Bool) (k : ℕ) → isD k ≡ b → upTo b (suc k) ≡ dedupNode (asked (upTo b k .trans) k) k (upTo b k)
+  unfolding dedupDffs dedupCombs
+  upTo-turn true k e = rw e
+  upTo-turn false k e = rw e
+
+  pub upTo-skip : (b : Bool) (k : ℕ) → isD k ≡ not b → upTo b (suc k) ≡ upTo b k
+  unfolding dedupDffs dedupCombs
+  upTo-skip true k e = rw e
+  upTo-skip false k e = rw e
+
+  pub upTo-over : upTo false 0 ≡ upTo true (size N)
+  unfolding dedupCombs
+  upTo-over = refl
+
+  pub upTo-start : upTo true 0 .news ≡ []
+  unfolding dedupDffs
+  upTo-start = refl
+
+  flipped : (a b : Bool) → (a ≡ b) ⊎ (a ≡ not b)
+  flipped true true = inl refl
+  flipped true false = inr refl
+  flipped false true = inr refl
+  flipped false false = inl refl
+
+  -- what holds at the start, and through each node, holds after both sweeps
+  module _ {ℓ} (P : Bool → ℕ → Work → Type ℓ)
+      (start : P true 0 (upTo true 0))
+      (turn : (b : Bool) (k : ℕ) → k < size N → isD k ≡ b → P b k (upTo b k) → P b (suc k) (dedupNode (asked (upTo b k .trans) k) k (upTo b k)))
+      (skip : (b : Bool) (k : ℕ) → k < size N → isD k ≡ not b → P b k (upTo b k) → P b (suc k) (upTo b k))
+      (over : P true (size N) (upTo true (size N)) → P false 0 (upTo true (size N))) where
+    one : (b : Bool) → P b 0 (upTo b 0) → (k : ℕ) → k ≤ size N → P b k (upTo b k)
+    one b z zero h = z
+    one b z (suc k) h =
+        let p = one b z k (omega arith) in
+        go (flipped (isD k) b) p
+      where
+        go : (isD k ≡ b) ⊎ (isD k ≡ not b) → P b k (upTo b k) → P b (suc k) (upTo b (suc k))
+        go (inl e) p = subst (P b (suc k)) (sym (upTo-turn b k e)) (turn b k h e p)
+        go (inr e) p = subst (P b (suc k)) (sym (upTo-skip b k e)) (skip b k h e p)
+
+    pub sweep : (b : Bool) (k : ℕ) → k ≤ size N → P b k (upTo b k)
+    sweep true k h = one true start k h
+    sweep false k h = one false (subst (P false 0) (sym upTo-over) (over (one true start (size N) (le-refl _)))) k h
+
+  -- ---- what the nodes that were looked up weigh
+
+  module _ (w : Gate → ℕ) where
+    abbrev ofDff : ℕ → ℕ
+    ofDff i = cond (isD i) (w (gateAt N i)) 0
+
+    abbrev ofComb : ℕ → ℕ
+    ofComb i = cond (isD i) 0 (w (gateAt N i))
+
+    abbrev pub due : Bool → ℕ → ℕ
+    due true k = sumTo ofDff k
+    due false k = sumTo ofDff (size N) + sumTo ofComb k
+
+    both : (k : ℕ) → sumTo ofDff k + sumTo ofComb k ≡ sumTo (λ i. w (gateAt N i)) k
+    both zero = refl
+    both (suc k) = let e = both k in by-bool (isD k) (λ d. rw d (omega arith)) (λ d. rw d (omega arith))
+
+    pub due-total : due false (size N) ≡ total w (N .nodes)
+    due-total = both (size N) ∙ total-sum w (N .nodes)
+
+    due-turn : (b : Bool) (k : ℕ) → isD k ≡ b → due b (suc k) ≡ due b k + w (gateAt N k)
+    due-turn true k e = rw e
+    due-turn false k e = rw e (omega arith)
+
+    due-skip : (b : Bool) (k : ℕ) → isD k ≡ not b → due b (suc k) ≡ due b k
+    due-skip true k e = rw e (omega arith)
+    due-skip false k e = rw e (omega arith)
+
+    pub due-most : (b : Bool) (k : ℕ) → k ≤ size N → due b k ≤ total w (N .nodes)
+    due-most true k h = let m = sum-mono ofDff k (size N) h in let t = due-total in omega arith
+    due-most false k h = let m = sum-mono ofComb k (size N) h in let t = due-total in omega arith
+
+    -- a node that is still to be looked up has its weight left
+    pub due-left : (b : Bool) (k : ℕ) → k < size N → isD k ≡ b → due b k + w (gateAt N k) ≤ total w (N .nodes)
+    due-left b k h e = let m = due-most b (suc k) h in let q = due-turn b k e in omega arith
+
+    module _ (light : (τ : ℕ → ℕ) (n : ℕ) → n < size N → (g : Gate) (z : Bool) → asked τ n ≡ made g z → w g ≤ w (gateAt N n)) where
+      none-yet : total w (upTo true 0 .news) ≤ 0
+      none-yet = rw upTo-start (le-refl 0)
+
+      pub weigh : (b : Bool) (k : ℕ) → k ≤ size N → total w (upTo b k .news) ≤ due b k
+      weigh = sweep (λ b k d. total w (d .news) ≤ due b k) none-yet turn
+          (λ b k h e p. let q = due-skip b k e in omega arith)
+          (λ p. omega arith)
+        where
+          turn : (b : Bool) (k : ℕ) → k < size N → isD k ≡ b → total w (upTo b k .news) ≤ due b k → total w (dedupNode (asked (upTo b k .trans) k) k (upTo b k) .news) ≤ due b (suc k)
+          turn b k h e p = go (grown (asked (upTo b k .trans) k) k (upTo b k))
+            where
+              m : List Gate
+              m = dedupNode (asked (upTo b k .trans) k) k (upTo b k) .news
+
+              go : Grown (asked (upTo b k .trans) k) (upTo b k .news) m → total w m ≤ due b (suc k)
+              go (same q) = let r = due-turn b k e in rw q (omega arith)
+              go (more g z q r) =
+                  let s = due-turn b k e in
+                  let l = light (upTo b k .trans) k h g z q in
+                  let t = total-snoc w (upTo b k .news) g in
+                  rw r (omega arith)
+
+  -- ---- what is looked up, by the law of the normalization
+
+  module _ (law : NormLaw norm) (ok : allShaped (N .nodes) ≡ true) where
+    pub asked-comb : (S : ℕ → Type 0) → Closed S → (τ : ℕ → ℕ) (n : ℕ) → n < size N → isD n ≡ false → All S (map (remapOrder τ) (gateAt N n .ins))
+        → Form S (length (gateAt N n .ins)) (asked τ n)
+    asked-comb S c τ n h e a =
+        let g = remapGate τ (gateAt N n) in
+        let f : Form S (length (g .ins)) (norm g) = law .of-comb S c g (shaped-remap τ (gateAt N n) ∙ shaped-at (N .nodes) ok n h) e a in
+        rw e (rw (length-map (gateAt N n .ins) (remapOrder τ)) at f)
+
+    pub asked-cell : (τ : ℕ → ℕ) (n : ℕ) → n < size N → isD n ≡ true → (asked τ n ≡ made (gateAt N n) false) ⊎ (asked τ n ≡ copied 0)
+    asked-cell τ n h e = rw e (law .of-cell (gateAt N n) (shaped-at (N .nodes) ok n h) e)
+
+    -- a gate that is looked up: a combinational gate of its node's, or the flip-flop itself
+    pub data Asked (n : ℕ) (g : Gate) : Type 0 where
+      gate : isD n ≡ false → Fit (λ s. Unit {0}) (length (gateAt N n .ins)) g → Asked n g
+      cell : isD n ≡ true → g ≡ gateAt N n → Asked n g
+
+    pub asked-is : (τ : ℕ → ℕ) (n : ℕ) → n < size N → (g : Gate) (z : Bool) → asked τ n ≡ made g z → Asked n g
+    asked-is τ n h g z q = by-bool (isD n) (λ e. go (asked-cell τ n h e) e) (λ e. gate e (asked-comb U u τ n h e (free (map (remapOrder τ) (gateAt N n .ins))) .gate g z q))
+      where
+        U : ℕ → Type 0
+        U s = Unit {0}
+
+        u : Closed U
+        u = record { has-zero = tt; has-flip = λ s b x. tt }
+
+        free : (l : List ℕ) → All U l
+        free [] = tt
+        free (x ∷ l) = (tt, free l)
+
+        go : (asked τ n ≡ made (gateAt N n) false) ⊎ (asked τ n ≡ copied 0) → isD n ≡ true → Asked n g
+        go (inl r) e = cell e (cc)
+        go (inr r) e = let z : _≡_ {A = ℕ} 0 1 = cc in absurd (omega arith)
+
+    -- no more nodes, gate inputs or combinational gates than were looked up
+    pub count : (b : Bool) (k : ℕ) → k ≤ size N → length (upTo b k .news) ≤ due (λ g. 1) b k
+    count b k h = rw (length-total (upTo b k .news)) (weigh (λ g. 1) (λ τ n l g z q. le-refl 1) b k h)
+
+    pub inputs : (b : Bool) (k : ℕ) → k ≤ size N → fanin (upTo b k .news) ≤ due (λ g. length (g .ins)) b k
+    inputs b k h = rw (fanin-total (upTo b k .news)) (weigh (λ g. length (g .ins)) (λ τ n l g z q. go τ n l g (asked-is τ n l g z q)) b k h)
+      where
+        go : (τ : ℕ → ℕ) (n : ℕ) → n < size N → (g : Gate) → Asked n g → length (g .ins) ≤ length (gateAt N n .ins)
+        go τ n l g (gate e f) = f .few
+        go τ n l g (cell e q) = rw q (le-refl _)
+
+    pub combs : (b : Bool) (k : ℕ) → k ≤ size N → total combOf (upTo b k .news) ≤ due combOf b k
+    combs = weigh combOf (λ τ n l g z q. go τ n l g (asked-is τ n l g z q))
+      where
+        go : (τ : ℕ → ℕ) (n : ℕ) → n < size N → (g : Gate) → Asked n g → combOf g ≤ combOf (gateAt N n)
+        go τ n l g (gate e f) = rw (f .comb, e) (le-refl 1)
+        go τ n l g (cell e q) = rw q (le-refl _)
