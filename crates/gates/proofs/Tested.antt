@@ -16,8 +16,8 @@ use Rattle.kinds.specs.declared.Kind.the-variants.{And2, Xor2, And3, Xor3, Maj,
 use Rattle.model.specs.Signal.{isInverted, isConstant}
 use Rattle.model.specs.Gate.{fitsKind}
 use Rattle.model.specs.Normal.{gateOf, sortedN, noInv, proper, muxCanonical, dffCanonical, canonicalK, isCanonical}
-use Rattle.gates.specs.Passes.{Listed, Shaped}
-use Rattle.gates.proofs.Wide.{first1, first2, first3}
+use Rattle.gates.specs.Normals.{Shaped}
+use Rattle.gates.proofs.Fronts.{first1, first2, first3}
 
 pub proper-none : (l : List ℕ) (n : ℕ) → n ≡ 0 → false ≡ proper (take n l)
 unfolding proper sortedN

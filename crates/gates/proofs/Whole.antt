@@ -13,10 +13,9 @@ use Rattle.signal.specs.declared.Signal.{Signal}
 use Rattle.model.specs.Signal.{neg}
 use Rattle.model.specs.Gate.{fitsKind}
 use Rattle.model.specs.Normal.{Norm, copied, made, gateOf, makeAnd, makeXor, makeAnd3, makeXor3, makeMaj, makeMux, makeDff, makeAndN, makeXorN, normalK, makeCanonical}
-use Rattle.gates.specs.Normals.{normalOf}
-use Rattle.gates.specs.Passes.{Listed, Shaped}
+use Rattle.gates.specs.Normals.{normalOf, Shaped}
 use Rattle.gates.specs.declared.Normalization.the-variants.{Copy, Node}
-use Rattle.gates.proofs.Wide.{first1, first2, first3}
+use Rattle.gates.proofs.Fronts.{first1, first2, first3}
 
 abbrev whole : Kind → List ℕ → ℕ → Norm
 whole k l n = makeCanonical (gateOf k (take n l))

@@ -48,6 +48,9 @@ flip-flip s a b = rw (word-ind (s / 2) (xor (isInverted s) a), word-inv (s / 2) 
 pub neg-neg : (s : ℕ) → neg (neg s) ≡ s
 neg-neg s = flip-flip s true true ∙ flip-false s
 
+pub neg-plain : (s : ℕ) → isInverted s ≡ true → isInverted (neg s) ≡ false
+neg-plain s e = flip-inv s true ∙ ap (λ b. xor b true) e
+
 pub plain-ind : (s : ℕ) → withoutInversion s / 2 ≡ s / 2
 unfolding withoutInversion
 plain-ind s = word-ind (s / 2) false
