@@ -1,19 +1,18 @@
 -- The n-ary gates, return by return.
 use mathlib.Core.Path.{_≡_, refl, sym, ap, ap₂, _∙_}
 use mathlib.Core.Logic.{_≢_}
-use Prim.Native.Nat.{ℕ, zero, suc, _+_, _≤_, _<_}
+use Prim.Native.Nat.{ℕ, zero, suc, _≤_, _<_}
 use native.Mathlib.Omega.{arith}
-use native.Mathlib.Nat.{not-suc-le-zero, le-of-suc-le-suc}
-use mathlib.Core.Bool.{Bool, true, false, not, cond, Bool·beq}
+use native.Mathlib.Nat.{not-suc-le-zero}
+use mathlib.Core.Bool.{Bool, true, false, not, Bool·beq}
 use mathlib.Core.List.{List, [], _∷_, map}
 use lib.ListN.{length, take, getD}
-use lib.Dec.{eqb}
 use borrow.Author.Tests.{eq-eqb, ne-eqb}
 use Rattle.kinds.specs.declared.Kind.the-variants.{AndN, XorN}
 use Rattle.signal.specs.declared.Signal.{Signal}
 use Rattle.laws.specs.Bools.{xor}
 use Rattle.laws.proofs.Bools.{xor-is}
-use Rattle.model.specs.Signal.{flip, neg, withoutInversion, fromBool}
+use Rattle.model.specs.Signal.{flip, withoutInversion, fromBool}
 use Rattle.model.specs.Normal.{Norm, copied, made, gateOf, makeAnd, makeAnd3, makeXor, makeXor3, without, sorted, uniq, opposed, andSome, andWide, andTidy, makeAndN, parity, cancel, xorSome, makeXorN}
 use Rattle.lists.specs.Passes.{Front}
 use Rattle.gates.specs.Normals.{normalOf, Listed}

@@ -1,17 +1,17 @@
 -- Masks and shifts of a word, as the model says them.
-use mathlib.Core.Path.{_≡_, refl, sym, _∙_}
+use mathlib.Core.Path.{_≡_, sym, _∙_}
 use Prim.Native.Nat.{ℕ, _+_, _-_, _*_, _/_, _%_, _≤_, _<_}
 use native.Mathlib.Omega.{arith}
 use native.Mathlib.Decide.{ℕ-discrete, decLt}
 use mathlib.Core.Bool.{Bool, true, false, not, _&&_}
 use mathlib.Core.List.{List}
 use lib.ListN.{length, getD, List·getD-eq-default}
-use lib.Dec.{eqb, ltb}
+use lib.Dec.{eqb}
 use lib.Bits.{bitAnd, bitXor, and-mask, and-high, xor-step, xor-zero-r, differ}
 use mir.Val.{boolByte}
 use borrow.Author.Tests.{eq-eqb, ne-eqb, lt-ltb, le-ltb, not-true, not-false}
 use Rattle.laws.proofs.Bools.{true-false, taut1}
-use Rattle.model.specs.Signal.{isInverted, flip, neg, withoutInversion, isInput, isConstant}
+use Rattle.model.specs.Signal.{isInverted, flip, neg, withoutInversion, isInput}
 use Rattle.model.proofs.Words.{plain-is, neg-odd, neg-even, flip-false, remap-constant, remap-input, remap-var}
 use Rattle.signal.specs.Signals.{isVar, remapped}
 
