@@ -1,14 +1,12 @@
 -- is_canonical, arm by arm.
-use mathlib.Core.Path.{_≡_, refl, sym, ap, ap₂, _∙_}
+use mathlib.Core.Path.{_≡_, refl, _∙_}
 use mathlib.Core.Logic.{_≢_}
-use Prim.Native.Nat.{ℕ, zero, suc, _/_, _≤_, _<_}
-use native.Mathlib.Omega.{arith}
-use native.Mathlib.Nat.{not-suc-le-zero}
+use Prim.Native.Nat.{ℕ, zero, suc}
 use mathlib.Core.Bool.{Bool, true, false, not, _&&_}
 use mathlib.Core.List.{List, [], _∷_}
 use lib.ListN.{length, take, getD}
-use lib.Seq.{length-take-le, getD-take}
-use lib.Dec.{eqb, ltb}
+use lib.Seq.{length-take-le}
+use lib.Dec.{ltb}
 use borrow.Author.Tests.{eqb-true}
 use Rattle.kinds.specs.Kinds.{kindOf}
 use Rattle.kinds.specs.declared.Kind.{Kind}
@@ -16,8 +14,8 @@ use Rattle.kinds.specs.declared.Kind.the-variants.{And2, Xor2, And3, Xor3, Maj,
 use Rattle.model.specs.Signal.{isInverted, isConstant}
 use Rattle.model.specs.Gate.{fitsKind}
 use Rattle.model.specs.Normal.{gateOf, sortedN, noInv, proper, muxCanonical, dffCanonical, canonicalK, isCanonical}
-use Rattle.gates.specs.Passes.{Listed, Shaped}
-use Rattle.gates.proofs.Wide.{first1, first2, first3}
+use Rattle.gates.specs.Normals.{Shaped}
+use Rattle.gates.proofs.Fronts.{first3}
 
 pub proper-none : (l : List ℕ) (n : ℕ) → n ≡ 0 → false ≡ proper (take n l)
 unfolding proper sortedN

@@ -1,26 +1,25 @@
 -- The two recursions: what falls, and that a call on the inverted signals gives the same.
-use mathlib.Core.Path.{_≡_, refl, sym, ap, _∙_}
+use mathlib.Core.Path.{_≡_, sym, ap, _∙_}
 use mathlib.Core.Logic.{_≢_}
-use Prim.Native.Nat.{ℕ, zero, suc, _+_, _*_, _/_, _%_, _≤_, _<_}
+use Prim.Native.Nat.{ℕ, _+_, _*_, _/_, _≤_, _<_}
 use native.Mathlib.Omega.{arith}
-use native.Mathlib.Decide.{ℕ-discrete, decLt, decLe}
-use mathlib.Core.Bool.{Bool, true, false, not, cond, _||_}
+use mathlib.Core.Bool.{Bool, true, false, not, _||_}
 use mathlib.Core.List.{List}
-use lib.Dec.{eqb, leb}
-use borrow.Author.Tests.{le-leb, lt-leb, eq-eqb, ne-eqb, eqb-true, eqb-false, leb-true, leb-false}
-use Rattle.kinds.specs.declared.Kind.{Kind}
+use lib.Dec.{eqb}
+use borrow.Author.Tests.{eq-eqb, ne-eqb, eqb-false}
 use Rattle.kinds.specs.declared.Kind.the-variants.{Maj}
 use Rattle.signal.specs.declared.Signal.{Signal}
-use Rattle.laws.specs.Bools.{xor, bit}
+use Rattle.laws.specs.Bools.{bit}
+use Rattle.laws.proofs.Bools.{or-left, or-right}
 use Rattle.model.specs.Signal.{isInverted, flip, neg}
-use Rattle.model.proofs.Words.{flip-ind, flip-inv, neg-neg}
+use Rattle.model.proofs.Words.{flip-ind, neg-neg, neg-plain}
 use Rattle.model.proofs.Order.{low-mid, mid-high, low-stays, mid-stays, high-stays, rising, neg-rising}
-use Rattle.model.specs.Normal.{Norm, copied, made3, least, most, low3, mid3, high3, makeAnd, muxPlain, muxSelect, makeMux, majPlain, majSorted, makeMaj}
+use Rattle.model.specs.Normal.{Norm, copied, made3, low3, mid3, high3, makeAnd, muxPlain, muxSelect, makeMux, majPlain, majSorted, makeMaj}
 use Rattle.gates.specs.Normals.{normalOf}
 use Rattle.gates.specs.declared.Normalization.the-variants.{Copy}
 
-neg-inv : (s n : ℕ) → n ≡ neg s → isInverted s ≡ true → isInverted n ≡ false
-neg-inv s n e h = ap isInverted e ∙ flip-inv s true ∙ ap (λ b. xor b true) h
+turned : (s n : ℕ) → n ≡ neg s → isInverted s ≡ true → isInverted n ≡ false
+turned s n e h = ap isInverted e ∙ neg-plain s h
 
 -- ---- Mux
 
@@ -35,12 +34,12 @@ bit-le false = omega arith
 module _ (s a b : ℕ) (z t : Bool) (r : Norm) where
   pub mux-swap : (n : ℕ) → t ≡ isInverted s → t ≡ true → n ≡ neg s → r ≡ makeMux n b a z → r ≡ makeMux s a b z
   unfolding makeMux
-  mux-swap n e h k q = let i : isInverted n ≡ false = neg-inv s n k (sym e ∙ h) in q ∙ rw (i, ← e, h, k)
+  mux-swap n e h k q = let i : isInverted n ≡ false = turned s n k (sym e ∙ h) in q ∙ rw (i, ← e, h, k)
 
   pub mux-flip : (u : Bool) (na nb : ℕ) → t ≡ isInverted s → t ≡ false → u ≡ isInverted b → u ≡ true → na ≡ neg a → nb ≡ neg b
       → r ≡ makeMux s na nb (not z) → r ≡ makeMux s a b z
   unfolding makeMux muxSelect
-  mux-flip u na nb e h f g ea eb q = let i : isInverted nb ≡ false = neg-inv b nb eb (sym f ∙ g) in q ∙ rw (i, ← e, h, ← f, g, ea, eb)
+  mux-flip u na nb e h f g ea eb q = let i : isInverted nb ≡ false = turned b nb eb (sym f ∙ g) in q ∙ rw (i, ← e, h, ← f, g, ea, eb)
 
   pub mux-rest : (u : Bool) → t ≡ isInverted s → t ≡ false → u ≡ isInverted b → u ≡ false → r ≡ muxPlain s a b z → r ≡ makeMux s a b z
   unfolding makeMux muxSelect
@@ -49,7 +48,7 @@ module _ (s a b : ℕ) (z t : Bool) (r : Norm) where
 pub mux-swap-falls : (s a b n k : ℕ) (t : Bool) → muxLeft s b ≡ k → t ≡ isInverted s → t ≡ true → n ≡ neg s → muxLeft n a < k
 unfolding muxLeft
 mux-swap-falls s a b n k t m e h q =
-    let i : isInverted n ≡ false = neg-inv s n q (sym e ∙ h) in
+    let i : isInverted n ≡ false = turned s n q (sym e ∙ h) in
     let j : isInverted s ≡ true = sym e ∙ h in
     let p : bit (isInverted a) ≤ 1 = bit-le (isInverted a) in
     rw (← m, i, j) (omega arith)
@@ -57,20 +56,11 @@ mux-swap-falls s a b n k t m e h q =
 pub mux-flip-falls : (s b nb k : ℕ) (u : Bool) → muxLeft s b ≡ k → u ≡ isInverted b → u ≡ true → nb ≡ neg b → muxLeft s nb < k
 unfolding muxLeft
 mux-flip-falls s b nb k u m e h q =
-    let i : isInverted nb ≡ false = neg-inv b nb q (sym e ∙ h) in
+    let i : isInverted nb ≡ false = turned b nb q (sym e ∙ h) in
     let j : isInverted b ≡ true = sym e ∙ h in
     rw (← m, i, j) (omega arith)
 
 pub ruleset muxTurns = (mux-swap, mux-flip, mux-rest, mux-swap-falls, mux-flip-falls)
-
--- the two halves of a test that failed
-or-l : (a b : Bool) → (a || b) ≡ false → a ≡ false
-or-l true b e = e
-or-l false b e = refl
-
-or-r : (a b : Bool) → (a || b) ≡ false → b ≡ false
-or-r true b e = let z : _≡_ {A = ℕ} 0 1 = cc in absurd (omega arith)
-or-r false b e = e
 
 -- ---- Maj
 
@@ -95,10 +85,10 @@ module _ (a b c x y w n m k : ℕ) (z : Bool) (ex : x ≡ low3 a b c) (ey : y �
 
     module _ (t2 : (eqb y k || eqb x y) ≡ false) where
       xy : x / 2 < y / 2
-      xy = rising x y (rw (ex, ey) (low-mid a b c)) (λ e. eqb-false x m (or-l _ _ t1) (e ∙ sym em)) (eqb-false x y (or-r (eqb y k) _ t2))
+      xy = rising x y (rw (ex, ey) (low-mid a b c)) (λ e. eqb-false x m (or-left _ _ t1) (e ∙ sym em)) (eqb-false x y (or-right (eqb y k) _ t2))
 
       yw : y / 2 < w / 2
-      yw = rising y w (rw (ey, ew) (mid-high a b c)) (λ e. eqb-false y k (or-l _ _ t2) (e ∙ sym ek)) (eqb-false y w (or-r (eqb x m) _ t1))
+      yw = rising y w (rw (ey, ew) (mid-high a b c)) (λ e. eqb-false y k (or-left _ _ t2) (e ∙ sym ek)) (eqb-false y w (or-right (eqb x m) _ t1))
 
       low-neg : low3 n m k ≡ n
       low-neg = rw (en, em, ek) (low-stays (neg x) (neg y) (neg w) (neg-rising x y xy) (neg-rising y w yw))
@@ -123,7 +113,7 @@ module _ (a b c x y w n m k : ℕ) (z : Bool) (ex : x ≡ low3 a b c) (ey : y �
       again : isInverted x ≡ true → makeMaj n m k (not z) ≡ majPlain n m k (not z)
       unfolding makeMaj majSorted
       again h =
-          let i : isInverted n ≡ false = neg-inv x n en h in
+          let i : isInverted n ≡ false = turned x n en h in
           rw (low-neg, mid-neg, high-neg, i, en, em, ek, apart2 x y xy, apart y w yw, apart2 y w yw, apart x y xy)
 
       pub maj-turn : (t : Bool) (r : Norm) → t ≡ isInverted x → t ≡ true → r ≡ makeMaj n m k (not z) → r ≡ makeMaj a b c z
@@ -136,7 +126,7 @@ module _ (a b c x y w n m k : ℕ) (z : Bool) (ex : x ≡ low3 a b c) (ey : y �
       unfolding majLeft
       maj-falls t q d e h =
           let i : isInverted x ≡ true = sym e ∙ h in
-          let j : isInverted n ≡ false = neg-inv x n en i in
+          let j : isInverted n ≡ false = turned x n en i in
           rw (← d, low-neg, j, ← ex, i) (omega arith)
 
       module _ (t : Bool) (r : Norm) (f : t ≡ isInverted x) (g : t ≡ false) where

@@ -1,9 +1,8 @@
 -- The whole: one law for each arm of make_canonical.
-use mathlib.Core.Path.{_≡_, refl, sym, ap, _∙_}
-use Prim.Native.Nat.{ℕ, zero, suc, _≤_, _<_}
-use native.Mathlib.Omega.{arith}
+use mathlib.Core.Path.{_≡_, ap, _∙_}
+use Prim.Native.Nat.{ℕ, _≤_}
 use mathlib.Core.Bool.{Bool, true, false}
-use mathlib.Core.List.{List, [], _∷_, map}
+use mathlib.Core.List.{List, map}
 use lib.ListN.{length, take, getD}
 use borrow.Author.Tests.{eqb-true}
 use Rattle.kinds.specs.Kinds.{kindOf}
@@ -12,11 +11,10 @@ use Rattle.kinds.specs.declared.Kind.the-variants.{And2, Xor2, And3, Xor3, Maj,
 use Rattle.signal.specs.declared.Signal.{Signal}
 use Rattle.model.specs.Signal.{neg}
 use Rattle.model.specs.Gate.{fitsKind}
-use Rattle.model.specs.Normal.{Norm, copied, made, gateOf, makeAnd, makeXor, makeAnd3, makeXor3, makeMaj, makeMux, makeDff, makeAndN, makeXorN, normalK, makeCanonical}
-use Rattle.gates.specs.Normals.{normalOf}
-use Rattle.gates.specs.Passes.{Listed, Shaped}
+use Rattle.model.specs.Normal.{Norm, copied, gateOf, makeAnd, makeXor, makeAnd3, makeXor3, makeMaj, makeMux, makeDff, makeAndN, makeXorN, normalK, makeCanonical}
+use Rattle.gates.specs.Normals.{normalOf, Shaped}
 use Rattle.gates.specs.declared.Normalization.the-variants.{Copy, Node}
-use Rattle.gates.proofs.Wide.{first1, first2, first3}
+use Rattle.gates.proofs.Fronts.{first1, first2, first3}
 
 abbrev whole : Kind → List ℕ → ℕ → Norm
 whole k l n = makeCanonical (gateOf k (take n l))

@@ -1,43 +1,23 @@
 -- The n-ary gates, return by return.
 use mathlib.Core.Path.{_≡_, refl, sym, ap, ap₂, _∙_}
 use mathlib.Core.Logic.{_≢_}
-use Prim.Native.Nat.{ℕ, zero, suc, _+_, _≤_, _<_}
+use Prim.Native.Nat.{ℕ, zero, suc, _≤_, _<_}
 use native.Mathlib.Omega.{arith}
-use native.Mathlib.Nat.{not-suc-le-zero, le-of-suc-le-suc}
-use mathlib.Core.Bool.{Bool, true, false, not, cond, Bool·beq}
+use native.Mathlib.Nat.{not-suc-le-zero}
+use mathlib.Core.Bool.{Bool, true, false, not, Bool·beq}
 use mathlib.Core.List.{List, [], _∷_, map}
 use lib.ListN.{length, take, getD}
-use lib.Dec.{eqb}
 use borrow.Author.Tests.{eq-eqb, ne-eqb}
 use Rattle.kinds.specs.declared.Kind.the-variants.{AndN, XorN}
 use Rattle.signal.specs.declared.Signal.{Signal}
 use Rattle.laws.specs.Bools.{xor}
-use Rattle.model.specs.Signal.{flip, neg, withoutInversion, fromBool}
+use Rattle.laws.proofs.Bools.{xor-is}
+use Rattle.model.specs.Signal.{flip, withoutInversion, fromBool}
 use Rattle.model.specs.Normal.{Norm, copied, made, gateOf, makeAnd, makeAnd3, makeXor, makeXor3, without, sorted, uniq, opposed, andSome, andWide, andTidy, makeAndN, parity, cancel, xorSome, makeXorN}
-use Rattle.gates.specs.Normals.{normalOf}
-use Rattle.gates.specs.Passes.{Front, Listed}
+use Rattle.lists.specs.Passes.{Front}
+use Rattle.gates.specs.Normals.{normalOf, Listed}
 use Rattle.gates.specs.declared.Normalization.the-variants.{Copy, Node}
-use Rattle.gates.proofs.Answers.{xor-is}
-
--- ---- the first n words, by their number
-
-abbrev w : List ℕ → ℕ → ℕ
-w l i = getD l i 0
-
-pub first1 : (l : List ℕ) → 3 ≤ length l → take 1 l ≡ w l 0 ∷ []
-first1 [] h = absurd (not-suc-le-zero h)
-first1 (a ∷ l) h = refl
-
-pub first2 : (l : List ℕ) → 3 ≤ length l → take 2 l ≡ w l 0 ∷ w l 1 ∷ []
-first2 [] h = absurd (not-suc-le-zero h)
-first2 (a ∷ []) h = absurd (not-suc-le-zero (le-of-suc-le-suc h))
-first2 (a ∷ b ∷ l) h = refl
-
-pub first3 : (l : List ℕ) → 3 ≤ length l → take 3 l ≡ w l 0 ∷ w l 1 ∷ w l 2 ∷ []
-first3 [] h = absurd (not-suc-le-zero h)
-first3 (a ∷ []) h = absurd (not-suc-le-zero (le-of-suc-le-suc h))
-first3 (a ∷ b ∷ []) h = absurd (not-suc-le-zero (le-of-suc-le-suc (le-of-suc-le-suc h)))
-first3 (a ∷ b ∷ c ∷ l) h = refl
+use Rattle.gates.proofs.Fronts.{first1, first2, first3}
 
 and-many : (n : ℕ) (l : List ℕ) (z : Bool) → n ≤ length l → 3 < n → getD l 0 0 ≢ 0 → made (gateOf AndN (take n l)) z ≡ andWide (take n l) z
 unfolding andWide andSome

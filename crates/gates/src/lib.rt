@@ -9,11 +9,11 @@ ghost use Rattle.gates.specs.Normals.{normalOf};
 use kinds::Kind;
 use signal::Signal;
 
+pub mod binary;
 pub mod canonical;
-pub mod fixed;
-pub mod lists;
 pub mod nary;
 pub mod order;
+pub mod ternary;
 
 pub enum Normalization {
     // The trivial case: the gate is a signal.

@@ -1,6 +1,8 @@
 -- Identities of Booleans: the exclusive or, the conjunction, and any identity by its table.
-use mathlib.Core.Path.{_≡_, refl}
-use mathlib.Core.Bool.{Bool, true, false, not, _&&_, _||_, false≢true}
+use mathlib.Core.Path.{_≡_, refl, sym}
+use Prim.Native.Nat.{ℕ}
+use native.Mathlib.Omega.{arith}
+use mathlib.Core.Bool.{Bool, true, false, not, _&&_, _||_, Bool·beq}
 use lib.Dec.{T}
 use Rattle.laws.specs.Bools.{xor}
 
@@ -30,28 +32,44 @@ and-comm true false = refl
 and-comm false true = refl
 and-comm false false = refl
 
--- what a conjunction says of its parts
+-- the code's `^` of two, of three and of four truth values
+pub xor-is : (a b : Bool) → not (Bool·beq a b) ≡ xor a b
+xor-is true true = refl
+xor-is true false = refl
+xor-is false true = refl
+xor-is false false = refl
+
+pub xor2-is : (a b c : Bool) → not (Bool·beq (not (Bool·beq a b)) c) ≡ xor (xor a b) c
+xor2-is a b c = rw (xor-is a b, xor-is (xor a b) c)
+
+pub xor3-is : (a b c d : Bool) → not (Bool·beq (not (Bool·beq (not (Bool·beq a b)) c)) d) ≡ xor (xor (xor a b) c) d
+xor3-is a b c d = rw (xor-is a b, xor-is (xor a b) c, xor-is (xor (xor a b) c) d)
+
+-- nothing is both
+pub true-false {ℓ} : {X : Type ℓ} → true ≡ false → X
+true-false q = let z : _≡_ {A = ℕ} 0 1 = cc in absurd (omega arith)
+
+-- the two halves of a disjunction that fails
+pub or-left : (a b : Bool) → (a || b) ≡ false → a ≡ false
+or-left true b e = e
+or-left false b e = refl
+
+pub or-right : (a b : Bool) → (a || b) ≡ false → b ≡ false
+or-right true b e = true-false e
+or-right false b e = e
+
+-- and of a conjunction that holds
 pub and-left : (a b : Bool) → (a && b) ≡ true → a ≡ true
 and-left true b e = refl
 and-left false b e = e
 
 pub and-right : (a b : Bool) → (a && b) ≡ true → b ≡ true
 and-right true b e = e
-and-right false b e = absurd (false≢true e)
+and-right false b e = true-false (sym e)
 
 pub and-both : (a b : Bool) → a ≡ true → b ≡ true → (a && b) ≡ true
 and-both true b e f = f
 and-both false b e f = e
-
--- and a disjunction that does not hold
-pub or-left : (a b : Bool) → (a || b) ≡ false → a ≡ false
-or-left true b e = e
-or-left false b e = refl
-
-pub or-right : (a b : Bool) → (a || b) ≡ false → b ≡ false
-or-right true true e = e
-or-right true false e = refl
-or-right false b e = e
 
 -- ---- by table: `taut3 (λ a b c. ..) (λ a b c. ..) tt x y z`
 

@@ -1,4 +1,4 @@
--- Laws of a claim of every element, of lists without repeats, of a mapped list, and of a test of some number.
+-- Laws of a claim of every element, of lists without repeats, of a mapped list, of a test of some number, of a list by its length.
 use mathlib.Core.Path.{_≡_, refl, sym, ap, fun-ext}
 use mathlib.Core.Logic.{_≢_}
 use Prim.Native.Nat.{ℕ, zero, suc, _<_, suc-le-suc, zero-le}
@@ -8,6 +8,8 @@ use native.Mathlib.Decide.{ℕ-discrete}
 use mathlib.Core.Bool.{Bool, true, false, _||_}
 use mathlib.Core.List.{List, [], _∷_, _++_, map}
 use lib.ListN.{length, getD}
+use lib.Dec.{eqb}
+use borrow.Author.Tests.{eqb-true}
 use Rattle.laws.proofs.Bools.{or-left, or-right}
 use Rattle.laws.specs.Lists.{All, Fresh, Distinct, someBelow}
 
@@ -69,3 +71,23 @@ pub none-some : (f : ℕ → Bool) (n : ℕ) → ((k : ℕ) → k < n → f k �
 unfolding someBelow
 none-some f zero h = refl
 none-some f (suc n) h = rw (none-some f n (λ k l. h k (omega arith))) (h n (omega arith))
+
+-- a list of one, two or three
+module _ {ℓ} {A : Type 0} (P : List A → Type ℓ) where
+  pub by-one : (l : List A) → eqb (length l) 1 ≡ true → ((a : A) → P (a ∷ [])) → P l
+  by-one (a ∷ []) e f = f a
+  by-one [] e f = absurd (let k = eqb-true 0 1 e in omega arith)
+  by-one (a ∷ b ∷ l) e f = absurd (let k = eqb-true (length (a ∷ b ∷ l)) 1 e in omega arith)
+
+  pub by-two : (l : List A) → eqb (length l) 2 ≡ true → ((a b : A) → P (a ∷ b ∷ [])) → P l
+  by-two (a ∷ b ∷ []) e f = f a b
+  by-two [] e f = absurd (let k = eqb-true 0 2 e in omega arith)
+  by-two (a ∷ []) e f = absurd (let k = eqb-true (length (a ∷ [])) 2 e in omega arith)
+  by-two (a ∷ b ∷ c ∷ l) e f = absurd (let k = eqb-true (length (a ∷ b ∷ c ∷ l)) 2 e in omega arith)
+
+  pub by-three : (l : List A) → eqb (length l) 3 ≡ true → ((a b c : A) → P (a ∷ b ∷ c ∷ [])) → P l
+  by-three (a ∷ b ∷ c ∷ []) e f = f a b c
+  by-three [] e f = absurd (let k = eqb-true 0 3 e in omega arith)
+  by-three (a ∷ []) e f = absurd (let k = eqb-true (length (a ∷ [])) 3 e in omega arith)
+  by-three (a ∷ b ∷ []) e f = absurd (let k = eqb-true (length (a ∷ b ∷ [])) 3 e in omega arith)
+  by-three (a ∷ b ∷ c ∷ d ∷ l) e f = absurd (let k = eqb-true (length (a ∷ b ∷ c ∷ d ∷ l)) 3 e in omega arith)

@@ -4,9 +4,9 @@ use Prim.Native.Nat.{ℕ}
 use mathlib.Core.Bool.{Bool, true, false, _||_}
 use mathlib.Core.List.{List, [], _∷_}
 use lib.Dec.{eqb}
-use Rattle.kinds.specs.Kinds.{kindOf, codeOf}
+use Rattle.kinds.specs.Kinds.{kindOf}
 use Rattle.kinds.specs.declared.Kind.{Kind}
-use Rattle.kinds.specs.declared.Kind.the-variants.{And2, Xor2, And3, Xor3, Maj, Mux, AndN, OrN, NandN, NorN, XorN, XnorN, Buf, Dff, Lut}
+use Rattle.kinds.specs.declared.Kind.the-variants.{And2, Xor2, Maj, Mux, AndN, NorN, XorN, Dff}
 use Rattle.model.specs.Signal.{isInverted, wordOf, flip, neg, withoutInversion, fromInput}
 use Rattle.model.specs.Normal.{Norm, copied, made, gateOf, made2, made3, least, most, low3, mid3, high3, andSorted, makeAnd, xorSorted, makeXor, muxPlain, muxSelect, makeMux, majPlain, majSorted, makeMaj, makeDff, without, insert, sorted, uniq, opposed, andSome, andWide, andTidy, makeAndN, parity, cancel, xorSome, makeXorN, normalK, makeCanonical}
 

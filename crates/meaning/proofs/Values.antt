@@ -1,26 +1,20 @@
 -- The value law of each make_ function: a normalization has its gate's value, is combinational, and names only what the gate names.
-use mathlib.Core.Path.{_≡_, refl, sym, ap, ap₂, _∙_, subst}
-use mathlib.Core.Logic.{_≢_}
-use Prim.Native.Nat.{ℕ, zero, suc, _≤_, _<_, _/_}
+use mathlib.Core.Path.{_≡_, refl, sym, ap, _∙_}
+use Prim.Native.Nat.{ℕ}
 use native.Mathlib.Omega.{arith}
 use mathlib.Core.Bool.{Bool, true, false, not, cond, _&&_, _||_}
-use mathlib.Core.List.{List, [], _∷_, _++_, map}
-use lib.ListN.{length, getD}
-use lib.Dec.{eqb, leb}
-use Rattle.kinds.specs.Kinds.{kindOf, codeOf, isFlipFlop}
-use Rattle.kinds.specs.declared.Kind.{Kind}
-use Rattle.kinds.specs.declared.Kind.the-variants.{And2, Xor2, And3, Xor3, Maj, Mux, AndN, OrN, NandN, NorN, XorN, XnorN, Buf, Dff, Lut}
+use mathlib.Core.List.{List}
+use Rattle.kinds.specs.Kinds.{kindOf, isFlipFlop}
 use Rattle.laws.specs.Bools.{xor}
-use Rattle.model.specs.Signal.{isInverted, wordOf, flip, neg, withoutInversion, fromBool, Ref, rzero, rnode, rinput, ref}
-use Rattle.model.specs.Gate.{Gate}
-use Rattle.model.specs.Evaluate.{valueOf, refValue, signalValue, gateValue, allOf, anyOf, oddOf, at}
-use Rattle.model.specs.Normal.{Norm, copied, made, gateOf, made2, made3, least, most, low3, mid3, high3, andSorted, makeAnd, xorSorted, makeXor, and3Sorted, makeAnd3, xor3Sorted, makeXor3, muxPlain, muxSelect, makeMux, majPlain, majSorted, makeMaj, normValue}
+use Rattle.model.specs.Signal.{isInverted, flip, neg, withoutInversion, fromBool, Ref, rzero, rnode, ref}
+use Rattle.model.specs.Evaluate.{valueOf, refValue, signalValue, gateValue}
+use Rattle.model.specs.Normal.{Norm, copied, made, made2, made3, least, most, low3, mid3, high3, andSorted, makeAnd, xorSorted, makeXor, and3Sorted, makeAnd3, xor3Sorted, makeXor3, muxPlain, muxSelect, makeMux, majPlain, majSorted, makeMaj, normValue}
 use Rattle.laws.proofs.Bools.{xor-assoc, xor-comm}
-use Rattle.model.proofs.Words.{flip-ref, flip-inv, zero-ref, one-ref, zero-inv, one-is, plain-ref, plain-inv}
+use Rattle.model.proofs.Words.{flip-ref, flip-inv, zero-ref, zero-inv, one-is, plain-ref, plain-inv}
+use Rattle.model.proofs.Order.{sort2-ok, sort3-ok}
 use Rattle.laws.specs.Lists.{All}
-use Rattle.laws.proofs.Lists.{all-map}
-use Rattle.laws.proofs.Choices.{by-eq, by-or, by-or2, by-or3, by-test}
-use Rattle.laws.proofs.Bools.{taut1, taut2, taut3, taut4, taut5, taut7}
+use Rattle.laws.proofs.Choices.{by-eq, by-or, by-or3, by-test}
+use Rattle.laws.proofs.Bools.{taut2, taut3, taut4, taut5, taut7}
 
 -- every node that signal s names is in K
 abbrev pub Names : (ℕ → Type 0) → ℕ → Type 0
@@ -88,24 +82,6 @@ module _ (P : ℕ → Type 0) where
 
   pub names-plain : (s : ℕ) → Names P s → Names P (withoutInversion s)
   names-plain s h m e = h m (sym (plain-ref s) ∙ e)
-
-pub sort2-ok {ℓ} : (Q : ℕ → ℕ → Type ℓ) (a b : ℕ) → Q a b → Q b a → Q (least a b) (most a b)
-unfolding least most
-sort2-ok Q a b p q = go (leb a b)
-  where
-    go : (t : Bool) → Q (cond t a b) (cond t b a)
-    go true = p
-    go false = q
-
--- what does not depend on the order holds of the sorted three
-pub sort3-ok {ℓ} : (S : ℕ → ℕ → ℕ → Type ℓ) → ((x y w : ℕ) → S x y w → S y x w) → ((x y w : ℕ) → S x y w → S x w y)
-    → (a b c : ℕ) → S a b c → S (low3 a b c) (mid3 a b c) (high3 a b c)
-unfolding low3 mid3 high3
-sort3-ok S s12 s23 a b c h =
-    let one : S a (least b c) (most b c) = sort2-ok (S a) b c h (s23 a b c h) in
-    let two : S (least a (least b c)) (most a (least b c)) (most b c) =
-    sort2-ok (λ x y. S x y (most b c)) a (least b c) one (s12 a (least b c) (most b c) one) in
-    sort2-ok (S (least a (least b c))) (most a (least b c)) (most b c) two (s23 (least a (least b c)) (most a (least b c)) (most b c) two)
 
 module _ (i v : ℕ → Bool) (P : ℕ → Type 0) where
   abbrev pub r : ℕ → Bool

@@ -1,15 +1,14 @@
 -- The laws of signal words: the only place where their arithmetic is done. Everything else goes by `inv`, `ref` and `flip`.
 use mathlib.Core.Path.{_≡_, refl, sym, ap, _∙_}
 use mathlib.Core.Logic.{_≢_}
-use Prim.Native.Nat.{ℕ, zero, suc, _+_, _-_, _*_, _/_, _%_, _≤_, _<_}
+use Prim.Native.Nat.{ℕ, suc, _+_, _-_, _*_, _/_, _%_, _≤_, _<_}
 use native.Mathlib.Omega.{arith}
 use native.Mathlib.Decide.{ℕ-discrete}
-use mathlib.Core.Bool.{Bool, true, false, not, cond}
-use lib.Dec.{eqb, ltb}
+use mathlib.Core.Bool.{Bool, true, false, cond}
 use borrow.Author.Tests.{eq-eqb, ne-eqb, lt-ltb, le-ltb, eqb-true, eqb-false}
-use Rattle.laws.specs.Bools.{xor, bit}
+use Rattle.laws.specs.Bools.{xor}
 use Rattle.laws.proofs.Bools.{xor-false, xor-assoc}
-use Rattle.model.specs.Signal.{wordOf, isInverted, ind, flip, neg, withoutInversion, fromVar, Ref, rzero, rnode, rinput, refIx, ref, remapOrder, remapRef, isConstant}
+use Rattle.model.specs.Signal.{wordOf, isInverted, flip, neg, withoutInversion, fromVar, rzero, rnode, rinput, refIx, ref, remapOrder}
 
 pub word-ind : (k : ℕ) (b : Bool) → wordOf k b / 2 ≡ k
 unfolding wordOf
@@ -48,6 +47,9 @@ flip-flip s a b = rw (word-ind (s / 2) (xor (isInverted s) a), word-inv (s / 2) 
 pub neg-neg : (s : ℕ) → neg (neg s) ≡ s
 neg-neg s = flip-flip s true true ∙ flip-false s
 
+pub neg-plain : (s : ℕ) → isInverted s ≡ true → isInverted (neg s) ≡ false
+neg-plain s e = flip-inv s true ∙ ap (λ b. xor b true) e
+
 pub plain-ind : (s : ℕ) → withoutInversion s / 2 ≡ s / 2
 unfolding withoutInversion
 plain-ind s = word-ind (s / 2) false
@@ -59,6 +61,10 @@ plain-ref s = ap refIx (plain-ind s)
 pub plain-inv : (s : ℕ) → isInverted (withoutInversion s) ≡ false
 unfolding withoutInversion
 plain-inv s = word-inv (s / 2) false
+
+pub plain-stays : (s : ℕ) → isInverted s ≡ false → withoutInversion s ≡ s
+unfolding withoutInversion
+plain-stays s e = ap (wordOf (s / 2)) (sym e) ∙ word-parts s
 
 -- as numbers
 pub plain-is : (s : ℕ) → withoutInversion s ≡ s / 2 * 2

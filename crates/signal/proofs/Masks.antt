@@ -1,18 +1,18 @@
 -- Masks and shifts of a word, as the model says them.
-use mathlib.Core.Path.{_≡_, refl, sym, ap, _∙_}
-use mathlib.Core.Logic.{_≢_}
-use Prim.Native.Nat.{ℕ, zero, suc, _+_, _-_, _*_, _/_, _%_, _≤_, _<_}
+use mathlib.Core.Path.{_≡_, sym, _∙_}
+use Prim.Native.Nat.{ℕ, _+_, _-_, _*_, _/_, _%_, _≤_, _<_}
 use native.Mathlib.Omega.{arith}
 use native.Mathlib.Decide.{ℕ-discrete, decLt}
 use mathlib.Core.Bool.{Bool, true, false, not, _&&_}
 use mathlib.Core.List.{List}
-use lib.ListN.{length, getD}
-use lib.Dec.{eqb, ltb}
+use lib.ListN.{length, getD, List·getD-eq-default}
+use lib.Dec.{eqb}
 use lib.Bits.{bitAnd, bitXor, and-mask, and-high, xor-step, xor-zero-r, differ}
+use mir.Val.{boolByte}
 use borrow.Author.Tests.{eq-eqb, ne-eqb, lt-ltb, le-ltb, not-true, not-false}
-use Rattle.laws.specs.Bools.{xor}
-use Rattle.model.specs.Signal.{wordOf, isInverted, flip, neg, withoutInversion, isInput, isConstant, isVar, remapOrder}
-use Rattle.model.proofs.Words.{plain-is, odd-inv, even-inv, neg-odd, neg-even, flip-false, remap-constant, remap-input, remap-var}
+use Rattle.laws.proofs.Bools.{true-false, taut1}
+use Rattle.model.specs.Signal.{isInverted, flip, neg, withoutInversion, isInput, isVar}
+use Rattle.model.proofs.Words.{plain-is, neg-odd, neg-even, flip-false, remap-constant, remap-input, remap-var}
 use Rattle.signal.specs.Signals.{remapped}
 
 pub mask-input : (s : ℕ) → s < 4294967296 → not (eqb (bitAnd s 2147483648) 0) ≡ isInput s
@@ -49,56 +49,49 @@ mask-not s =
           omega arith
     ]
 
-pub xor-true : (s r : ℕ) (b : Bool) → r ≡ neg s → b ≡ true → r ≡ flip s b
-xor-true s r b h e = rw e h
+pub mask-flip : (s : ℕ) (b : Bool) → bitXor s (boolByte b) ≡ flip s b
+mask-flip s true = mask-not s
+mask-flip s false = xor-zero-r s ∙ sym (flip-false s)
 
-pub xor-false : (s : ℕ) (b : Bool) → b ≡ false → s ≡ flip s b
-xor-false s b e = rw e (sym (flip-false s))
+-- the bits of an index, turned round
+pub mask-index : (s i : ℕ) → i ≡ s / 2 → s < 4294967296 → bitAnd (4294967295 - i) 2147483647 ≡ 2147483647 - s / 2
+mask-index s i h l = let e : bitAnd (4294967295 - i) 2147483647 ≡ (4294967295 - i) % 2147483648 = and-mask (4294967295 - i) 31 in omega arith
 
--- what `is_var` tells
-pub var-low : (s : ℕ) (t : Bool) → t ≡ isVar s → not t ≡ false → 2 ≤ s
+-- ---- remap_order
+
+pub entry-none : (t : List ℕ) (v : ℕ) → length t ≤ v → 0 ≡ getD t v 0
+entry-none t v h = sym (List·getD-eq-default t 0 h)
+
+is-var : (s : ℕ) → isVar s ≡ true → (2 ≤ s) × (s < 2147483648)
 unfolding isVar
-var-low s t e f = elim (ℕ-discrete (s / 2) 0) [
-  | yes h ↦ let z : isVar s ≡ false = rw (eq-eqb (s / 2) 0 h) (and-f (not (isInput s))) in clash (sym (not-false t f) ∙ e ∙ z)
-  | no h ↦ omega arith
-]
-  where
-    and-f : (b : Bool) → b && false ≡ false
-    and-f true = refl
-    and-f false = refl
-
-    clash : true ≡ false → 2 ≤ s
-    clash q = let z : _≡_ {A = ℕ} 0 1 = cc in absurd (omega arith)
-
-pub var-high : (s : ℕ) (t : Bool) → t ≡ isVar s → not t ≡ false → s < 2147483648
-unfolding isVar
-var-high s t e f = elim (decLt s 2147483648) [
-  | yes h ↦ h
-  | no h ↦ let z : isVar s ≡ false = rw (le-ltb s 2147483648 (omega arith)) in clash (sym (not-false t f) ∙ e ∙ z)
-]
-  where
-    clash : true ≡ false → s < 2147483648
-    clash q = let z : _≡_ {A = ℕ} 0 1 = cc in absurd (omega arith)
-
-pub remap-stays : (s : ℕ) (t : List ℕ) (b : Bool) → b ≡ isVar s → not b ≡ true → s ≡ remapped t s
-unfolding isVar
-remap-stays s t b e f = elim (ℕ-discrete (s / 2) 0) [
-  | yes h ↦ sym (remap-constant (λ v. getD t v 0) s h)
+is-var s e = elim (ℕ-discrete (s / 2) 0) [
+  | yes h ↦ true-false (sym e ∙ rw (eq-eqb (s / 2) 0 h) (taut1 (λ b. b && false) (λ b. false) tt (not (isInput s))))
   | no h ↦ elim (decLt s 2147483648) [
-    | yes l ↦
-        let z : isVar s ≡ true = rw (lt-ltb s 2147483648 l, ne-eqb (s / 2) 0 h) in
-        clash (sym (not-true b f) ∙ e ∙ z)
-    | no l ↦ sym (remap-input (λ v. getD t v 0) s (omega arith))
+    | yes l ↦ (omega arith, l)
+    | no l ↦ true-false (sym e ∙ rw (le-ltb s 2147483648 (omega arith)))
   ]
 ]
-  where
-    clash : false ≡ true → s ≡ remapped t s
-    clash q = let z : _≡_ {A = ℕ} 0 1 = cc in absurd (omega arith)
 
-pub remap-goes : (s : ℕ) (t : List ℕ) (v r : ℕ) (i : Bool) → 2 ≤ s → s < 2147483648 → v ≡ s / 2 - 1 → i ≡ isInverted s → r ≡ flip (getD t v 0) i → r ≡ remapped t s
-remap-goes s t v r i h l e j f = f ∙ (rw (e, j) (sym (remap-var (λ v. getD t v 0) s h l)))
+-- what `is_var` tells
+module _ (s : ℕ) (t : Bool) (e : t ≡ isVar s) where
+  pub var-low : not t ≡ false → 2 ≤ s
+  var-low f = is-var s (sym e ∙ not-false t f) .0
 
-pub remap-inside : (s v : ℕ) (t : List ℕ) → (s < 2147483648 → s / 2 ≤ length t) → 2 ≤ s → s < 2147483648 → v ≡ s / 2 - 1 → v < length t
-remap-inside s v t h l g e = let k = h g in omega arith
+  pub var-high : not t ≡ false → s < 2147483648
+  var-high f = is-var s (sym e ∙ not-false t f) .1
 
-pub ruleset masks = (mask-input, mask-inverted, mask-plain, mask-not, xor-true, xor-false, var-low, var-high, remap-stays, remap-inside, remap-goes)
+  pub remap-stays : (l : List ℕ) → not t ≡ true → s ≡ remapped l s
+  unfolding isVar
+  remap-stays l f = elim (ℕ-discrete (s / 2) 0) [
+    | yes h ↦ sym (remap-constant (λ v. getD l v 0) s h)
+    | no h ↦ elim (decLt s 2147483648) [
+      | yes k ↦ true-false (rw (lt-ltb s 2147483648 k, ne-eqb (s / 2) 0 h) at (sym e) ∙ not-true t f)
+      | no k ↦ sym (remap-input (λ v. getD l v 0) s (omega arith))
+    ]
+  ]
+
+pub remap-goes : (s : ℕ) (t : List ℕ) (v w r : ℕ) (i : Bool) → 2 ≤ s → s < 2147483648 → v ≡ s / 2 - 1 → w ≡ getD t v 0 → i ≡ isInverted s
+    → r ≡ flip w i → r ≡ remapped t s
+remap-goes s t v w r i h l e d j f = f ∙ rw (d, e, j) (sym (remap-var (λ v. getD t v 0) s h l))
+
+pub ruleset masks = (mask-input, mask-inverted, mask-plain, mask-not, mask-flip, mask-index, entry-none, var-low, var-high, remap-stays, remap-goes)

@@ -16,14 +16,19 @@ impl Signal {
 
     pub const ONE: Signal = Signal { a: 1 };
 
-    // A signal from an index, 0 being the constant.
-    pub fn from_ind(v: u32) -> Signal
-        requires { ⌜ v < 2147483648 ⌝ }
-        ensures { λ r. ⌜ r .a ≡ 2 * v ⌝ }
+    pub fn zero() -> Signal
+        ensures { λ r. ⌜ r .a ≡ 0 ⌝ }
     {
-        Signal { a: v << 1 }
+        Signal::ZERO
     }
 
+    pub fn one() -> Signal
+        ensures { λ r. ⌜ r .a ≡ 1 ⌝ }
+    {
+        Signal::ONE
+    }
+
+    // A node.
     pub fn from_var(v: u32) -> Signal
         requires { ⌜ v < 1073741823 ⌝ }
         ensures { λ r. ⌜ r .a ≡ fromVar v ⌝ }
@@ -31,12 +36,19 @@ impl Signal {
         Signal::from_ind(v + 1)
     }
 
-    // Inputs stand at the far end: input 0 has the greatest plain word.
+    // An input. They stand at the far end: input 0 has the greatest plain word.
     pub fn from_input(v: u32) -> Signal
         requires { ⌜ v < 1073741824 ⌝ }
         ensures { λ r. ⌜ r .a ≡ fromInput v ⌝ }
     {
-        Signal::from_ind(0x7FFF_FFFF - v)
+        Signal::from_ind(!v)
+    }
+
+    // A signal from an index, 0 being the constant. The index has 31 bits: its top bit is shifted out.
+    pub fn from_ind(v: u32) -> Signal
+        ensures { λ r. ⌜ r .a ≡ 2 * v % 4294967296 ⌝ }
+    {
+        Signal { a: v << 1 }
     }
 
     // The constant of a truth value.
@@ -89,15 +101,13 @@ impl Signal {
         requires { ⌜ 2147483648 ≤ self .a ⌝ }
         ensures { λ r. ⌜ r ≡ 2147483647 - self .a / 2 ⌝ }
     {
-        0x7FFF_FFFF - self.ind()
+        !self.ind() & !0x8000_0000
     }
 
     pub fn without_inversion(self) -> Signal
         ensures { λ r. ⌜ r .a ≡ withoutInversion (self .a) ⌝ }
     {
-        Signal {
-            a: self.a & 0xFFFF_FFFE,
-        }
+        Signal { a: self.a & !1 }
     }
 
     // The Rust's `!`.
@@ -111,18 +121,28 @@ impl Signal {
     pub fn xor(self, b: bool) -> Signal
         ensures { λ r. ⌜ r .a ≡ flip (self .a) b ⌝ }
     {
-        if b { self.not() } else { self }
+        Signal {
+            a: self.a ^ b as u32,
+        }
     }
 
-    // Through a translation of the nodes; constants and inputs stay.
+    // Through a translation of the nodes; constants and inputs stay. A node past the table goes to zero.
     pub fn remap_order(self, t: &[u32]) -> Signal
-        requires { ⌜ (self .a < 2147483648 → self .a / 2 ≤ length (now t)) ⌝ }
         ensures { λ r. ⌜ r .a ≡ remapped (now (t .entry)) (self .a) ⌝ }
     {
         if !self.is_var() {
             return self;
         }
-        let v = self.var() as usize;
-        Signal { a: t[v] }.xor(self.is_inverted())
+        Signal::entry(t, self.var() as usize).xor(self.is_inverted())
+    }
+
+    // Word v of a translation, zero past its end.
+    fn entry(t: &[u32], v: usize) -> Signal
+        ensures { λ r. ⌜ r .a ≡ getD (now (t .entry)) v 0 ⌝ }
+    {
+        if v < t.len() {
+            return Signal { a: t[v] };
+        }
+        Signal::ZERO
     }
 }

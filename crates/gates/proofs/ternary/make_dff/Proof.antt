@@ -1,0 +1,14 @@
+use Rattle.gates.proofs.Triples.{dffs}
+use borrow.Author.Needs.{needs}
+use Rattle.gates.proofs.ternary.make_dff.Statement.{statement}
+use Rattle.gates.proofs.ternary.make_dff.Tie as tie
+
+pub make-dff-spec : {M : Type 1} → statement M
+make-dff-spec =
+    tie.close
+    (tie.spec
+    (λ c κs. search needs)
+    (λ c. search (needs, dffs))
+    (λ c κs. search needs)
+    (λ c. search needs)
+    (λ c. search (needs, dffs)))

@@ -1,0 +1,3 @@
+pub mod Walks
+pub mod Ordering
+pub mod Checks
