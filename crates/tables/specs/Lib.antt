@@ -2,3 +2,4 @@
 pub mod Layout
 pub mod Building
 pub mod Holding
+pub mod Working

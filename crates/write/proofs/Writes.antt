@@ -1,0 +1,289 @@
+-- The laws of writing as the code meets them: a premise is a test, a callee's promise or an invariant, as it stands in a need.
+use mathlib.Core.Path.{_≡_, refl, sym, ap, _∙_}
+use mathlib.Core.Logic.{_≢_}
+use mathlib.Core.Bool.{Bool, true, false, cond, _&&_}
+use mathlib.Core.List.{List, [], _∷_, _++_, append-assoc}
+use Prim.Native.Nat.{ℕ, zero, suc, _+_, _-_, _*_, _/_, _%_, _^_, _≤_, _<_}
+use native.Mathlib.Omega.{arith}
+use native.Mathlib.Numerals.{add-one}
+use lib.ListN.{length, getD, set, length-append}
+use lib.Dec.{leb}
+use borrow.Author.Tests.{le-leb, lt-leb}
+use mir.Val.{Fits}
+use mir.Syntax.{w32, w64}
+use Rattle.answers.specs.declared.Answer.the-variants.{Accepted, Refused}
+use Rattle.laws.specs.Lists.{tab}
+use Rattle.laws.proofs.Tabs.{length-tab}
+use Rattle.model.specs.Image.{tableWords, gateWords, gatesWords, bodyWords, netWords, imageOf}
+use Rattle.model.specs.Answers.{written, laidOver, inRoom}
+use Rattle.model.proofs.Bytes.{length-bytes}
+use Rattle.words.specs.Stores.{putWord}
+use Rattle.tables.specs.Layout.{netSize, kindAt, firstAt, countAt, inputAt, lowAt, highAt, outputAt, insAt, gateAt, nodesOf, outputsOf, netOf, cell, trBase}
+use Rattle.tables.specs.Holding.{networkOf, Held}
+use Rattle.tables.specs.Working.{Answered, Answered2}
+use Rattle.tables.specs.declared.counts.Counts.{Counts}
+use Rattle.tables.proofs.Places.{lowAt-fits}
+use Rattle.tables.proofs.Holding.{length-insAt, length-nodesOf, length-outputsOf, inputs-few, nodes-few, outs-few, kind-known, size-network}
+use Rattle.write.specs.Writing.{putWords, insFrom, outsFrom, trailerWords, mappingIn, Node, Inputs, Writes, Put, Room, Outputs, Trailer, Mapped, HeldMapped}
+use Rattle.write.proofs.Stored.{length-putWords, putWords-append, putWords-one, putWords-laid, put-none, put-more, put-next, laid-none, laid-next}
+use Rattle.write.proofs.Sizes.{table-plain, table-lut, length-table, record-words, length-record, words-none, words-next, length-next, length-within, length-image, words-few}
+
+-- ---- record_len and image_len
+
+pub node-held : (l : List ℕ) (c : Counts) (v : ℕ) → Held l c → v < c .nodes → Node l v
+node-held l c v H h = record { long = H .long; few = omega (arith, nodes-few l c H); ends = H .ends v h; known = kind-known l c H v h }
+
+module _ (l : List ℕ) (v n k : ℕ) (e : n ≡ countAt l v) (q : k ≡ kindAt l v) where
+  pub len-lut : k ≡ 14 → n + 3 ≡ length (gateWords (gateAt l v))
+  len-lut t = omega (arith, length-record l v, length-table l v (sym q ∙ t))
+
+  pub len-plain : k ≢ 14 → n + 1 ≡ length (gateWords (gateAt l v))
+  len-plain t =
+      let z : length (tableWords (gateAt l v)) ≡ 0 = ap length (table-plain l v (λ p. t (q ∙ p))) in
+      omega (arith, length-record l v)
+
+pub len-none : (l : List ℕ) → 0 ≡ length (gatesWords (nodesOf l 0))
+len-none l = ap length (sym (words-none l))
+
+module _ (l : List ℕ) (c : Counts) (H : Held l c) (v n : ℕ) (e : n ≡ length (gatesWords (nodesOf l v))) where
+  module _ (h : v < c .nodes) (m : ℕ) (k : m ≡ length (gateWords (gateAt l v))) where
+    pub len-next : n + m ≡ length (gatesWords (nodesOf l (v + 1)))
+    len-next = rw (add-one v) (omega (arith, length-next l v))
+
+    pub len-fits : Fits w64 (n + m)
+    len-fits = record { fits = omega (arith, length-next l v, words-few l c H (suc v) h) }
+
+  module _ (h : c .nodes ≤ v) (k : v ≤ c .nodes) where
+    all-words : n ≡ length (gatesWords (nodesOf l (c .nodes)))
+    all-words = let z : v ≡ c .nodes = omega arith in rw (← z) e
+
+    pub len-all : 4 * (n + c .outs + 4) ≡ length (imageOf (networkOf l c))
+    len-all = rw (length-image l c, all-words)
+
+    pub len-few : n ≤ 3584
+    len-few = omega (arith, words-few l c H v k)
+
+    pub len-add : Fits w64 (n + c .outs)
+    len-add = record { fits = omega (arith, len-few, outs-few l c H) }
+
+    pub len-add4 : Fits w64 (n + c .outs + 4)
+    len-add4 = record { fits = omega (arith, len-few, outs-few l c H) }
+
+    pub len-mul : Fits w64 (4 * (n + c .outs + 4))
+    len-mul = record { fits = omega (arith, len-few, outs-few l c H) }
+
+pub ruleset lens = (node-held, len-lut, len-plain, len-none, len-next, len-fits, len-all, len-add, len-add4, len-mul)
+
+-- ---- write_inputs and write_outputs
+
+pub ins-next : (l : List ℕ) (first : ℕ) (b : List ℕ) (at j : ℕ) (b′ : List ℕ) → b′ ≡ putWords b at (insFrom l first j) → (s : ℕ) → s ≡ inputAt l (first + j)
+    → (b″ : List ℕ) → b″ ≡ putWord b′ (at + 4 * j) s → b″ ≡ putWords b at (insFrom l first (j + 1))
+unfolding insFrom
+ins-next l first b at j b′ e s k b″ q = rw add-one (q ∙ put-next b at (λ i. inputAt l (first + i)) j b′ e s k)
+
+pub outs-next : (l b : List ℕ) (at j : ℕ) (b′ : List ℕ) → b′ ≡ putWords b at (outsFrom l j) → (s : ℕ) → s ≡ outputAt l j
+    → (b″ : List ℕ) → b″ ≡ putWord b′ (at + 4 * j) s → b″ ≡ putWords b at (outsFrom l (j + 1))
+unfolding outsFrom
+outs-next l b at j b′ e s k b″ q = rw add-one (q ∙ put-next b at (outputAt l) j b′ e s k)
+
+-- ---- write_table and write_gate
+
+module _ (l : List ℕ) (v : ℕ) (out : List ℕ) (at : ℕ) where
+  pub put-plain : (k : ℕ) → k ≡ kindAt l v → k ≢ 14 → Put out at (tableWords (gateAt l v)) out at
+  put-plain k q t = rw (table-plain l v (λ p. t (q ∙ p))) (put-none out at)
+
+  module _ (k : ℕ) (q : k ≡ kindAt l v) (t : k ≡ 14) where
+    pub low-room : Writes l v (tableWords (gateAt l v)) out at → at + 4 ≤ length out
+    low-room W = omega (arith, W .room, length-table l v (sym q ∙ t))
+
+    pub high-room : Writes l v (tableWords (gateAt l v)) out at → (out1 : List ℕ) → length out1 ≡ length out → at + 4 + 4 ≤ length out1
+    high-room W out1 s = omega (arith, W .room, length-table l v (sym q ∙ t))
+
+    pub put-lut : (low high : ℕ) → low ≡ lowAt l v → high ≡ highAt l v → low < 4294967296 → (out1 out2 : List ℕ) → out1 ≡ putWord out at low
+        → out2 ≡ putWord out1 (at + 4) high → Put out at (tableWords (gateAt l v)) out2 (at + 8)
+    unfolding putWords
+    put-lut low high a z f out1 out2 e1 e2 =
+        rw (table-lut l v (sym q ∙ t) (rw (← a) f))
+        (record { bytes = e2 ∙ rw (e1, a, z); end = omega arith })
+
+pub ruleset tables = (put-plain, low-room, high-room, put-lut)
+
+module _ (l : List ℕ) (v : ℕ) (out : List ℕ) (at : ℕ) (W : Writes l v (gateWords (gateAt l v)) out at) where
+  pub head-room : at + 4 ≤ length out
+  head-room = omega (arith, W .room, length-record l v)
+
+  module _ (n : ℕ) (e : n ≡ countAt l v) where
+    pub gate-inputs : (first : ℕ) → first ≡ firstAt l v → (out1 : List ℕ) → length out1 ≡ length out → Inputs l first n out1 (at + 4)
+    gate-inputs first f out1 s = record {
+      long = W .node .long;
+      inside = omega (arith, W .node .ends);
+      room = omega (arith, W .room, length-record l v);
+    }
+
+    pub gate-table : (out1 out2 : List ℕ) → length out1 ≡ length out → length out2 ≡ length out1 → Writes l v (tableWords (gateAt l v)) out2 (at + 4 + 4 * n)
+    gate-table out1 out2 s t = record { node = W .node; room = omega (arith, W .room, length-record l v) }
+
+    pub gate-put : (k first : ℕ) → k ≡ kindAt l v → first ≡ firstAt l v → (out1 out2 out3 : List ℕ) (r : ℕ) → out1 ≡ putWord out at (k + 256 * n)
+        → out2 ≡ putWords out1 (at + 4) (insFrom l first n) → Put out2 (at + 4 + 4 * n) (tableWords (gateAt l v)) out3 r → Put out at (gateWords (gateAt l v)) out3 r
+    unfolding putWords insFrom insAt
+    gate-put k first q f out1 out2 out3 r e1 e2 P =
+        let h = k + 256 * n in
+        let xs = insFrom l first n in
+        let ts = tableWords (gateAt l v) in
+        let lx : length xs ≡ n = length-tab (λ j. inputAt l (first + j)) n in
+        let ws : gateWords (gateAt l v) ≡ h ∷ (xs ++ ts) = record-words l v ∙ rw (← q, ← e, ← f) in
+        rw ws
+        (record {
+          bytes = P .bytes ∙ rw (e2, e1) (sym (putWords-append (putWord out at h) (at + 4) xs ts ∙ ap (λ (m : ℕ). putWords (putWords (putWord out at h) (at + 4) xs) (at + 4 + 4 * m) ts) lx));
+          end = P .end ∙ rw length-append (omega arith);
+        })
+
+pub ruleset gates = (head-room, gate-inputs, gate-table, gate-put)
+
+-- ---- write_nodes
+
+pub nodes-none : (l out : List ℕ) → Put out 0 (gatesWords (nodesOf l 0)) out 0
+nodes-none l out = rw (words-none l) (put-none out 0)
+
+module _ (l out₀ : List ℕ) (v : ℕ) (out : List ℕ) (at : ℕ) (P : Put out₀ 0 (gatesWords (nodesOf l v)) out at) where
+  pub node-writes : (c : Counts) → Room l c (gatesWords (nodesOf l (c .nodes))) out₀ → v < c .nodes → length out ≡ length out₀
+      → Writes l v (gateWords (gateAt l v)) out at
+  node-writes c R h s = record { node = node-held l c v (R .held) h; room = omega (arith, R .room, P .end, length-within l v (c .nodes) h) }
+
+  pub nodes-next : (out′ : List ℕ) (r : ℕ) → Put out at (gateWords (gateAt l v)) out′ r → Put out₀ 0 (gatesWords (nodesOf l (v + 1))) out′ r
+  nodes-next out′ r Q = rw (add-one v, words-next l v, Q .end) (put-more out₀ 0 (gatesWords (nodesOf l v)) out at P (gateWords (gateAt l v)) out′ (Q .bytes))
+
+  pub nodes-all : (n : ℕ) → n ≤ v → v ≤ n → Put out₀ 0 (gatesWords (nodesOf l n)) out at
+  nodes-all n h k = let e : v ≡ n = omega arith in rw (← e) P
+
+pub ruleset nodes = (nodes-none, node-writes, nodes-next, nodes-all)
+
+-- ---- write_trailer
+
+pub trailer-put : (c : Counts) (b : List ℕ) (at : ℕ) (b1 b2 b3 b4 : List ℕ) → b1 ≡ putWord b at (c .inputs) → b2 ≡ putWord b1 (at + 4) (c .nodes)
+    → b3 ≡ putWord b2 (at + 8) (c .outs) → b4 ≡ putWord b3 (at + 12) (at + 16) → b4 ≡ putWords b at (trailerWords c at)
+unfolding putWords
+trailer-put c b at b1 b2 b3 b4 e1 e2 e3 e4 =
+    let p : at + 4 + 4 ≡ at + 8 = omega arith in
+    let q : at + 8 + 4 ≡ at + 12 = omega arith in
+    rw (p, q, ← e1, ← e2, ← e3) e4
+
+-- ---- write_image
+
+module _ (l : List ℕ) (c : Counts) where
+  length-outsFrom : length (outsFrom l (c .outs)) ≡ c .outs
+  unfolding outsFrom
+  length-outsFrom = length-tab (outputAt l) (c .outs)
+
+  net-words : (end : ℕ) → end ≡ 0 + 4 * length (gatesWords (nodesOf l (c .nodes)))
+      → netWords (networkOf l c) ≡ (gatesWords (nodesOf l (c .nodes)) ++ outsFrom l (c .outs)) ++ trailerWords c (end + 4 * c .outs)
+  unfolding netWords bodyWords networkOf netOf outsFrom outputsOf
+  net-words end e =
+      let gs = gatesWords (nodesOf l (c .nodes)) in
+      let os = outsFrom l (c .outs) in
+      let d : 4 * (length (gs ++ os) + 4) ≡ end + 4 * c .outs + 16 = rw length-append (omega (arith, length-outsFrom)) in
+      rw (length-nodesOf, length-outsFrom, d)
+
+module _ (l : List ℕ) (c : Counts) (out : List ℕ) (R : Room l c (netWords (networkOf l c)) out) where
+  length-words : length (netWords (networkOf l c)) ≡ length (gatesWords (nodesOf l (c .nodes))) + c .outs + 4
+  unfolding imageOf
+  length-words = omega (arith, length-image l c, length-bytes (netWords (networkOf l c)))
+
+  pub records-room : Room l c (gatesWords (nodesOf l (c .nodes))) out
+  records-room = record { held = R .held; room = omega (arith, R .room, length-words) }
+
+  module _ (out1 : List ℕ) (end : ℕ) (P : Put out 0 (gatesWords (nodesOf l (c .nodes))) out1 end) where
+    end-few : end ≤ 14336
+    end-few = omega (arith, P .end, words-few l c (R .held) (c .nodes) (omega arith))
+
+    pub outs-fit : Fits w64 (4 * c .outs)
+    outs-fit = record { fits = omega (arith, outs-few l c (R .held)) }
+
+    pub end-fit : Fits w64 (end + 4 * c .outs)
+    end-fit = record { fits = omega (arith, end-few, outs-few l c (R .held)) }
+
+    pub outs-asked : length out1 ≡ length out → Outputs l (c .outs) out1 end
+    outs-asked s = record { long = R .held .long; few = outs-few l c (R .held); room = omega (arith, P .end, R .room, length-words) }
+
+    pub trailer-asked : length out1 ≡ length out → (out2 : List ℕ) → length out2 ≡ length out1 → Trailer c out2 (end + 4 * c .outs)
+    trailer-asked s out2 t = record {
+      inputs-few = inputs-few l c (R .held);
+      nodes-few = nodes-few l c (R .held);
+      outs-few = outs-few l c (R .held);
+      few = omega (arith, end-few, outs-few l c (R .held));
+      room = omega (arith, P .end, R .room, length-words);
+    }
+
+    pub image-laid : (out2 out3 : List ℕ) → out2 ≡ putWords out1 end (outsFrom l (c .outs)) → out3 ≡ putWords out2 (end + 4 * c .outs) (trailerWords c (end + 4 * c .outs))
+        → out3 ≡ laidOver (imageOf (networkOf l c)) out
+    unfolding imageOf
+    image-laid out2 out3 e2 e3 =
+        let gs = gatesWords (nodesOf l (c .nodes)) in
+        let os = outsFrom l (c .outs) in
+        let tr = trailerWords c (end + 4 * c .outs) in
+        let lo = length-outsFrom l c in
+        let Q = put-more out 0 gs out1 end P os out2 e2 in
+        let S = put-more out 0 (gs ++ os) out2 (end + 4 * length os) Q tr out3 (rw lo e3) in
+        S .bytes ∙ ap (putWords out 0) (sym (net-words l c end (P .end))) ∙ putWords-laid out (netWords (networkOf l c)) (R .room)
+
+pub ruleset images = (records-room, outs-fit, end-fit, outs-asked, trailer-asked, image-laid)
+
+-- ---- write_mapping
+
+module _ (l : List ℕ) (old : ℕ) (map₀ : List ℕ) (M : Mapped l old map₀) where
+  pub mapping-none : map₀ ≡ laidOver (mappingIn l 0) map₀
+  unfolding mappingIn tab
+  mapping-none = laid-none map₀
+
+  pub mapping-next : (i : ℕ) (map : List ℕ) → map ≡ laidOver (mappingIn l i) map₀ → i < old → (x : ℕ) → x ≡ cell l trBase i → set map i x ≡ laidOver (mappingIn l (i + 1)) map₀
+  unfolding mappingIn tab
+  mapping-next i map e h x k =
+      let r = M .room in
+      rw (e, k, add-one) (laid-next (tab (cell l trBase) i) map₀ i (cell l trBase i) (length-tab (cell l trBase) i) (omega arith))
+
+-- ---- write
+
+module _ (l : List ℕ) (c : Counts) (out : List ℕ) (n : ℕ) (e : n ≡ length (imageOf (networkOf l c))) where
+  pub write-short : length out < n → Answered (inRoom (length out) 0 (written (imageOf (networkOf l c)) [])) out (Refused 13) out
+  write-short h = let z = lt-leb (length (imageOf (networkOf l c))) (length out) (rw (← e) h) in record { answer = rw z; result = rw z }
+
+  pub write-done : n ≤ length out → (out′ : List ℕ) → out′ ≡ laidOver (imageOf (networkOf l c)) out
+      → Answered (inRoom (length out) 0 (written (imageOf (networkOf l c)) [])) out (Accepted n) out′
+  write-done h out′ q = let z = le-leb (length (imageOf (networkOf l c))) (length out) (rw (← e) h) in record { answer = rw (z, e); result = rw z q }
+
+  pub write-room : Held l c → n ≤ length out → Room l c (netWords (networkOf l c)) out
+  unfolding imageOf
+  write-room H h = record { held = H; room = omega (arith, length-bytes (netWords (networkOf l c))) }
+
+  -- with a mapping: m is the length lent for it
+  module _ (old : ℕ) (map : List ℕ) (M : HeldMapped l c old) where
+    length-mapping : length (mappingIn l old) ≡ old
+    unfolding mappingIn
+    length-mapping = length-tab (cell l trBase) old
+
+    pub mapped-short : length out < n
+        → Answered2 (inRoom (length out) (length map) (written (imageOf (networkOf l c)) (mappingIn l old))) out map (Refused 13) out map
+    mapped-short h =
+        let z = lt-leb (length (imageOf (networkOf l c))) (length out) (rw (← e) h) in
+        record { first = record { answer = rw z; result = rw z }; second-is = rw z }
+
+    module _ (h : n ≤ length out) where
+      fits : leb (length (imageOf (networkOf l c))) (length out) ≡ true
+      fits = le-leb (length (imageOf (networkOf l c))) (length out) (rw (← e) h)
+
+      pub map-short : length map < old
+          → Answered2 (inRoom (length out) (length map) (written (imageOf (networkOf l c)) (mappingIn l old))) out map (Refused 13) out map
+      map-short k =
+          let z = lt-leb (length (mappingIn l old)) (length map) (rw length-mapping k) in
+          record { first = record { answer = rw (fits, z); result = rw (fits, z) }; second-is = rw (fits, z) }
+
+      pub mapped-room : old ≤ length map → Mapped l old map
+      mapped-room k = record { inside = M .inside; room = k }
+
+      pub mapped-done : old ≤ length map → (out′ map′ : List ℕ) → out′ ≡ laidOver (imageOf (networkOf l c)) out → map′ ≡ laidOver (mappingIn l old) map
+          → Answered2 (inRoom (length out) (length map) (written (imageOf (networkOf l c)) (mappingIn l old))) out map (Accepted n) out′ map′
+      mapped-done k out′ map′ p q =
+          let z = le-leb (length (mappingIn l old)) (length map) (rw length-mapping k) in
+          record { first = record { answer = rw (fits, z, e); result = rw (fits, z) p }; second-is = rw (fits, z) q }
+
+pub ruleset writes = (write-short, write-done, write-room, mapped-short, map-short, mapped-room, mapped-done)

@@ -1,0 +1,17 @@
+use Rattle.write.proofs.Writes.{writes}
+use borrow.Author.Needs.{needs}
+use Rattle.write.proofs.write_mapped.Statement.{statement}
+use Rattle.write.proofs.write_mapped.Tie as tie
+
+pub write-mapped-spec : {M : Type 1} → statement M
+write-mapped-spec =
+    tie.close
+    (tie.spec
+    (λ c κs. search needs)
+    (λ c. search (needs, writes))
+    (λ c. search (needs, writes))
+    (λ c κs. search (needs, writes))
+    (λ c κs. search needs)
+    (λ c. search needs)
+    (λ c. search needs)
+    (λ c. search (needs, writes)))
