@@ -58,6 +58,16 @@ pub or-right : (a b : Bool) → (a || b) ≡ false → b ≡ false
 or-right true b e = true-false e
 or-right false b e = e
 
+pub or-comm : (a b : Bool) → a || b ≡ b || a
+or-comm true true = refl
+or-comm true false = refl
+or-comm false true = refl
+or-comm false false = refl
+
+pub or-true : (b : Bool) → b || true ≡ true
+or-true true = refl
+or-true false = refl
+
 -- and of a conjunction that holds
 pub and-left : (a b : Bool) → (a && b) ≡ true → a ≡ true
 and-left true b e = refl

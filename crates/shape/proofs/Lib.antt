@@ -12,3 +12,6 @@ pub mod DedupNormal
 pub mod DedupPlace
 pub mod DedupSweep
 pub mod Dedup
+pub mod FactoringLists
+pub mod FactoringFuel
+pub mod FactoringBest

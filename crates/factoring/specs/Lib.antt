@@ -1,0 +1,2 @@
+-- What the contracts of `factoring` cite.
+pub mod Turned

@@ -1,0 +1,15 @@
+use borrow.Author.Needs.{needs}
+use Rattle.pairs.specs.Lists.{sigAt}
+use Rattle.pairs.proofs.lists.sig_at.Statement.{statement}
+use Rattle.pairs.proofs.lists.sig_at.Tie as tie
+
+returns : tie.Need-returns
+unfolding sigAt
+returns c = cc
+
+pub sig-at-spec : {M : Type 1} → statement M
+sig-at-spec =
+    tie.close
+    (tie.spec
+    (λ c κs. search needs)
+    returns)

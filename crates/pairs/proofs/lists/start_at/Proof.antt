@@ -1,0 +1,15 @@
+use borrow.Author.Needs.{needs}
+use Rattle.pairs.specs.Lists.{startAt}
+use Rattle.pairs.proofs.lists.start_at.Statement.{statement}
+use Rattle.pairs.proofs.lists.start_at.Tie as tie
+
+returns : tie.Need-returns
+unfolding startAt
+returns c = cc
+
+pub start-at-spec : {M : Type 1} → statement M
+start-at-spec =
+    tie.close
+    (tie.spec
+    (λ c κs. search needs)
+    returns)

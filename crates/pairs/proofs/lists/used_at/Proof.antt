@@ -1,0 +1,15 @@
+use borrow.Author.Needs.{needs}
+use Rattle.pairs.specs.Lists.{usedAt}
+use Rattle.pairs.proofs.lists.used_at.Statement.{statement}
+use Rattle.pairs.proofs.lists.used_at.Tie as tie
+
+returns : tie.Need-returns
+unfolding usedAt
+returns c = cc
+
+pub used-at-spec : {M : Type 1} → statement M
+used-at-spec =
+    tie.close
+    (tie.spec
+    (λ c κs. search needs)
+    returns)
