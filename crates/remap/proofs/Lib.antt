@@ -1,0 +1,4 @@
+pub mod Tabled
+pub mod Moves
+pub mod Numbers
+pub mod Whole
