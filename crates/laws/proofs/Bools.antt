@@ -1,6 +1,6 @@
 -- Identities of Booleans: the exclusive or, the conjunction, and any identity by its table.
 use mathlib.Core.Path.{_≡_, refl}
-use mathlib.Core.Bool.{Bool, true, false, not, _&&_}
+use mathlib.Core.Bool.{Bool, true, false, not, _&&_, false≢true}
 use lib.Dec.{T}
 use Rattle.laws.specs.Bools.{xor}
 
@@ -29,6 +29,19 @@ and-comm true true = refl
 and-comm true false = refl
 and-comm false true = refl
 and-comm false false = refl
+
+-- what a conjunction says of its parts
+pub and-left : (a b : Bool) → (a && b) ≡ true → a ≡ true
+and-left true b e = refl
+and-left false b e = e
+
+pub and-right : (a b : Bool) → (a && b) ≡ true → b ≡ true
+and-right true b e = e
+and-right false b e = absurd (false≢true e)
+
+pub and-both : (a b : Bool) → a ≡ true → b ≡ true → (a && b) ≡ true
+and-both true b e f = f
+and-both false b e f = e
 
 -- ---- by table: `taut3 (λ a b c. ..) (λ a b c. ..) tt x y z`
 

@@ -89,14 +89,14 @@ unfoldable pub fanin : List Gate → ℕ
 fanin [] = 0
 fanin (g ∷ gs) = length (g .ins) + fanin gs
 
--- is_valid: a signal names a constant, one of the inputs or one of the nodes
+-- is_valid: a signal is a 32-bit word that names a constant, one of the inputs or one of the nodes
 abbrev pub namedRef : ℕ → ℕ → Ref → Bool
 namedRef inputs nodes rzero = true
 namedRef inputs nodes (rnode v) = ltb v nodes
 namedRef inputs nodes (rinput k) = ltb k inputs
 
 unfoldable pub named : ℕ → ℕ → ℕ → Bool
-named inputs nodes s = namedRef inputs nodes (ref s)
+named inputs nodes s = ltb s 4294967296 && namedRef inputs nodes (ref s)
 
 unfoldable pub allNamed : ℕ → ℕ → List ℕ → Bool
 allNamed i n [] = true

@@ -1,5 +1,5 @@
 -- The image (document 01, "The image"): bytes to a network and back, the numbers 2 to 7, and record k.
-use Prim.Native.Nat.{ℕ, zero, suc, _+_, _-_, _*_, _/_, _%_}
+use Prim.Native.Nat.{ℕ, zero, suc, _+_, _-_, _*_, _/_, _%_, _<_}
 use mathlib.Core.Bool.{Bool, true, false, cond, _&&_}
 use mathlib.Core.List.{List, [], _∷_, _++_}
 use lib.ListN.{length, getD, take, drop}
@@ -7,6 +7,13 @@ use lib.Dec.{eqb, leb, ltb}
 use Rattle.model.specs.Gate.{Gate, Net, size, isLut, fitsCode, fitsTable, fanin, wired, isTopoSorted}
 
 -- ---- bytes and words: little-endian 32-bit words, at any byte alignment
+
+-- each element is a byte, or a 32-bit word, as in every slice of them
+abbrev pub Bytes : List ℕ → Type 0
+Bytes b = (i : ℕ) → getD b i 0 < 256
+
+abbrev pub Words32 : List ℕ → Type 0
+Words32 ws = (i : ℕ) → getD ws i 0 < 4294967296
 
 -- four bytes as a word
 abbrev pub le4 : ℕ → ℕ → ℕ → ℕ → ℕ
@@ -144,8 +151,15 @@ sortedRefusalOf img = cond (eqb (refusalOf img) 0) (cond (isTopoSorted (netOf im
 unfoldable pub recordIn : List ℕ → ℕ → List ℕ
 recordIn b k = take (4 * sizeAt (words b) (endFrom k (words b) 0)) (drop (4 * endFrom k (words b) 0) b)
 
+unfoldable pub hasRecord : List ℕ → ℕ → Bool
+hasRecord img k = eqb (refusalOf img) 0 && ltb k (nodesIn img)
+
 unfoldable pub recordOf : List ℕ → ℕ → List ℕ
-recordOf img k = cond (eqb (refusalOf img) 0 && ltb k (nodesIn img)) (recordIn (bodyOf img) k) []
+recordOf img k = cond (hasRecord img k) (recordIn (bodyOf img) k) []
+
+-- the byte of the image where that part begins; 0 if it is empty
+unfoldable pub recordAtOf : List ℕ → ℕ → ℕ
+recordAtOf img k = cond (hasRecord img k) (length img - spanIn img + 4 * endFrom k (wordsOf img) 0) 0
 
 -- ---- the image of a network: "A writer writes no prefix"
 
