@@ -14,6 +14,10 @@ slice-write-dst-3 c = simp length-set (omega arith)
 slice-write-dst-4 : tie.Need-slice-write-dst-4
 slice-write-dst-4 c = simp length-set (omega arith)
 
+returns : tie.Need-returns
+unfolding putWord
+returns c = search needs
+
 pub put-word-spec : {M : Type 1} → statement M
 put-word-spec =
     tie.close
@@ -30,4 +34,4 @@ put-word-spec =
     (λ c. search needs)
     slice-write-dst-4
     (λ c. search needs)
-    (λ c. search needs))
+    returns)

@@ -3,6 +3,10 @@ use Rattle.model.specs.Image.{wordAt}
 use Rattle.words.proofs.word_at.Statement.{statement}
 use Rattle.words.proofs.word_at.Tie as tie
 
+returns : tie.Need-returns
+unfolding wordAt
+returns c = search needs
+
 pub word-at-spec : {M : Type 1} → statement M
 word-at-spec =
     tie.close
@@ -15,4 +19,4 @@ word-at-spec =
     (λ c. search needs)
     (λ c. search needs)
     (λ c κs. search needs)
-    (λ c. search needs))
+    returns)
