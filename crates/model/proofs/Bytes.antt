@@ -91,3 +91,27 @@ words-small (a ∷ b ∷ c ∷ d ∷ r) h (suc i) = words-small r (λ j. h (suc 
 -- the bytes of a part
 pub bytes-drop : (n : ℕ) (b : List ℕ) → Bytes b → Bytes (drop n b)
 bytes-drop n b h i = rw getD-drop (h (n + i))
+
+-- ---- lists of words
+
+pub words-append : (xs ys : List ℕ) → Words32 xs → Words32 ys → Words32 (xs ++ ys)
+words-append [] ys p q i = q i
+words-append (x ∷ xs) ys p q zero = p 0
+words-append (x ∷ xs) ys p q (suc i) = words-append xs ys (λ j. p (suc j)) q i
+
+pub words-cons : (x : ℕ) (xs : List ℕ) → x < 4294967296 → Words32 xs → Words32 (x ∷ xs)
+words-cons x xs p q zero = p
+words-cons x xs p q (suc i) = q i
+
+pub words-nil : Words32 []
+words-nil i = omega arith
+
+-- a list of words is written in bytes
+pub bytes-small : (ws : List ℕ) → Words32 ws → Bytes (bytes ws)
+unfolding bytes
+bytes-small [] h i = omega arith
+bytes-small (w ∷ ws) h zero = omega arith
+bytes-small (w ∷ ws) h (suc zero) = omega arith
+bytes-small (w ∷ ws) h (suc (suc zero)) = omega arith
+bytes-small (w ∷ ws) h (suc (suc (suc zero))) = let p : w < 4294967296 = h 0 in omega arith
+bytes-small (w ∷ ws) h (suc (suc (suc (suc i)))) = bytes-small ws (λ j. h (suc j)) i
