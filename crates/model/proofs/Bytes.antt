@@ -1,11 +1,11 @@
 -- Laws of words and bytes. Whoever uses words cites these and not the definitions.
-use mathlib.Core.Path.{_≡_, refl, ap, ap₂, _∙_}
+use mathlib.Core.Path.{_≡_, refl, sym, ap, ap₂, _∙_}
 use mathlib.Core.List.{List, [], _∷_, _++_}
 use Prim.Native.Nat.{ℕ, zero, suc, _+_, _*_, _/_, _%_, _<_}
 use native.Mathlib.Omega.{arith}
 use native.Mathlib.Nat.{suc-add, add-assoc}
-use lib.ListN.{length, drop, getD}
-use lib.Seq.{getD-drop, getD-append-add}
+use lib.ListN.{length, take, drop, getD}
+use lib.Seq.{getD-drop, getD-append-add, take-nil, drop-nil}
 use Rattle.model.specs.Image.{Bytes, Words32, le4, wordAt, leWord, words, bytes}
 
 pub le4-leWord : (w : ℕ) → le4 (w % 256) (w / 256 % 256) (w / 65536 % 256) (w / 16777216) ≡ w
@@ -93,6 +93,18 @@ pub bytes-drop : (n : ℕ) (b : List ℕ) → Bytes b → Bytes (drop n b)
 bytes-drop n b h i = rw getD-drop (h (n + i))
 
 -- ---- lists of words
+
+pub bytes-take : (k : ℕ) (ws : List ℕ) → bytes (take k ws) ≡ take (4 * k) (bytes ws)
+unfolding bytes
+bytes-take zero ws = refl
+bytes-take (suc k) [] = sym (take-nil (4 * suc k))
+bytes-take (suc k) (w ∷ ws) = let e = bytes-take k ws in simp four-suc (ap (λ (r : List ℕ). leWord w ++ r) e)
+
+pub bytes-after : (k : ℕ) (ws : List ℕ) → bytes (drop k ws) ≡ drop (4 * k) (bytes ws)
+unfolding bytes
+bytes-after zero ws = refl
+bytes-after (suc k) [] = sym (drop-nil (4 * suc k))
+bytes-after (suc k) (w ∷ ws) = simp four-suc (bytes-after k ws)
 
 pub words-append : (xs ys : List ℕ) → Words32 xs → Words32 ys → Words32 (xs ++ ys)
 words-append [] ys p q i = q i

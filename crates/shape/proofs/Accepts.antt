@@ -1,4 +1,4 @@
--- The image of a valid network is accepted, and consists of bytes.
+-- The image of a valid network is accepted.
 use mathlib.Core.Path.{_≡_, refl, sym, ap, ap₂, _∙_, subst}
 use mathlib.Core.List.{List, [], _∷_, _++_, append-assoc}
 use mathlib.Core.Bool.{Bool, true, false, _&&_}

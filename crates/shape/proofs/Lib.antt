@@ -5,3 +5,5 @@ pub mod Written
 pub mod Accepts
 pub mod Back
 pub mod Valids
+pub mod Sizes
+pub mod Records

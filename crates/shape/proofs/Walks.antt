@@ -4,8 +4,9 @@ use mathlib.Core.List.{List, [], _∷_}
 use Prim.Native.Nat.{ℕ, zero, suc, _+_, _-_, _≤_, _<_}
 use native.Mathlib.Omega.{arith}
 use native.Mathlib.Nat.{zero-add, suc-add, add-assoc}
-use lib.ListN.{length, drop, length-drop}
+use lib.ListN.{length, getD, drop, length-drop}
 use lib.Seq.{length-take-le, getD-drop, drop-drop}
+use Rattle.model.specs.Gate.{Gate}
 use Rattle.model.specs.Image.{codeAt, countAt, sizeAt, tableAt, recordGate, soundAt, gatesFrom, soundFrom, endFrom}
 
 -- ---- forward
@@ -30,6 +31,14 @@ unfolding endFrom
 end-add zero d ws at = rw zero-add
 end-add (suc j) d ws at = rw suc-add (end-add j d ws (at + sizeAt ws at))
 
+end-one : (ws : List ℕ) (at : ℕ) → endFrom 1 ws at ≡ at + sizeAt ws at
+unfolding endFrom
+end-one ws at = refl
+
+-- the last record of a walk
+pub end-last : (k : ℕ) (ws : List ℕ) (at : ℕ) → endFrom (suc k) ws at ≡ endFrom k ws at + sizeAt ws (endFrom k ws at)
+end-last k ws at = let e : suc k ≡ k + 1 = omega arith in ap (λ (m : ℕ). endFrom m ws at) e ∙ end-add k 1 ws at ∙ end-one ws (endFrom k ws at)
+
 pub end-mono : (j n : ℕ) (ws : List ℕ) (at : ℕ) → j ≤ n → endFrom j ws at ≤ endFrom n ws at
 end-mono j n ws at l =
     let e : j + (n - j) ≡ n = omega arith in
@@ -47,6 +56,13 @@ pub length-gates : (k : ℕ) (ws : List ℕ) (at : ℕ) → length (gatesFrom k 
 unfolding gatesFrom
 length-gates zero ws at = refl
 length-gates (suc k) ws at = ap suc (length-gates k ws (at + sizeAt ws at))
+
+-- gate k is that of record k
+pub gates-at : (k n : ℕ) (ws : List ℕ) (at : ℕ) (d : Gate) → k < n → getD (gatesFrom n ws at) k d ≡ recordGate ws (endFrom k ws at)
+unfolding gatesFrom endFrom
+gates-at k zero ws at d l = absurd (omega arith)
+gates-at zero (suc n) ws at d l = refl
+gates-at (suc k) (suc n) ws at d l = gates-at k n ws (at + sizeAt ws at) d (omega arith)
 
 -- ---- words behind a position
 
