@@ -1,5 +1,6 @@
 -- Identities of Booleans: the exclusive or, the conjunction, and any identity by its table.
 use mathlib.Core.Path.{_≡_, refl}
+use mathlib.Core.Logic.{_⊎_, inl, inr}
 use mathlib.Core.Bool.{Bool, true, false, not, _&&_, false≢true}
 use lib.Dec.{T}
 use Rattle.laws.specs.Bools.{xor}
@@ -42,6 +43,10 @@ and-right false b e = absurd (false≢true e)
 pub and-both : (a b : Bool) → a ≡ true → b ≡ true → (a && b) ≡ true
 and-both true b e f = f
 and-both false b e f = e
+
+pub and-split : (a b : Bool) → (a && b) ≡ false → (a ≡ false) ⊎ (b ≡ false)
+and-split true b e = inr e
+and-split false b e = inl refl
 
 -- ---- by table: `taut3 (λ a b c. ..) (λ a b c. ..) tt x y z`
 

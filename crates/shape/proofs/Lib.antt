@@ -7,3 +7,4 @@ pub mod Back
 pub mod Valids
 pub mod Sizes
 pub mod Records
+pub mod Told
