@@ -1,7 +1,7 @@
 -- Identities of Booleans: the exclusive or, the conjunction, and any identity by its table.
-use mathlib.Core.Path.{_≡_, refl}
+use mathlib.Core.Path.{_≡_, refl, sym}
 use mathlib.Core.Logic.{_⊎_, inl, inr}
-use mathlib.Core.Bool.{Bool, true, false, not, _&&_, false≢true}
+use mathlib.Core.Bool.{Bool, true, false, not, _&&_, _||_, false≢true}
 use lib.Dec.{T}
 use Rattle.laws.specs.Bools.{xor}
 
@@ -47,6 +47,15 @@ and-both false b e f = e
 pub and-split : (a b : Bool) → (a && b) ≡ false → (a ≡ false) ⊎ (b ≡ false)
 and-split true b e = inr e
 and-split false b e = inl refl
+
+-- and of a disjunction that fails
+pub or-false-left : (a b : Bool) → (a || b) ≡ false → a ≡ false
+or-false-left false b e = refl
+or-false-left true b e = e
+
+pub or-false-right : (a b : Bool) → (a || b) ≡ false → b ≡ false
+or-false-right false b e = e
+or-false-right true b e = absurd (false≢true (sym e))
 
 -- ---- by table: `taut3 (λ a b c. ..) (λ a b c. ..) tt x y z`
 

@@ -8,3 +8,4 @@ pub mod Valids
 pub mod Sizes
 pub mod Records
 pub mod Told
+pub mod ToldSignals

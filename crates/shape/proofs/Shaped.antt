@@ -1,18 +1,19 @@
 -- What a gate's shape says: its code, its inputs and its table in numbers.
 use mathlib.Core.Path.{_≡_, refl, sym, ap, _∙_}
-use mathlib.Core.Bool.{Bool, true, false, cond, _&&_}
+use mathlib.Core.Bool.{Bool, true, false, cond, _&&_, false≢true}
 use mathlib.Core.List.{List, [], _∷_}
-use Prim.Native.Nat.{ℕ, _+_, _*_, _^_, _≤_, _<_}
+use Prim.Native.Nat.{ℕ, zero, suc, _+_, _*_, _^_, _≤_, _<_}
 use native.Mathlib.Omega.{arith}
-use lib.ListN.{length}
+use lib.ListN.{length, getD}
 use lib.Pow.{pow-mono}
 use lib.Dec.{eqb, leb, ltb}
 use borrow.Author.Tests.{ltb-true, leb-true, eqb-true, lt-ltb}
 use Rattle.laws.proofs.Bools.{and-left, and-right, and-both}
-use Rattle.kinds.specs.Kinds.{kindOf}
-use Rattle.kinds.proofs.Codes.{kind-code}
-use Rattle.kinds.specs.declared.Kind.the-variants.{Lut}
-use Rattle.model.specs.Gate.{Gate, isLut, fitsKind, fitsCode, fitsTable, shaped, allShaped, fanin}
+use Rattle.kinds.specs.Kinds.{codeOf, kindOf, isFlipFlop}
+use Rattle.kinds.proofs.Codes.{kind-code, code-kind}
+use Rattle.kinds.specs.declared.Kind.{Kind}
+use Rattle.kinds.specs.declared.Kind.the-variants.{And2, Xor2, And3, Xor3, Maj, Mux, AndN, OrN, NandN, NorN, XorN, XnorN, Buf, Dff, Lut}
+use Rattle.model.specs.Gate.{Gate, noGate, isDff, isLut, fitsKind, fitsCode, fitsTable, shaped, allShaped, fanin}
 
 pub code-small : (code n : ℕ) → fitsCode code n ≡ true → code < 15
 unfolding fitsCode
@@ -62,3 +63,35 @@ module _ (g : Gate) (gs : List Gate) (s : allShaped (g ∷ gs) ≡ true) where
   pub rest-shaped : allShaped gs ≡ true
   unfolding allShaped
   rest-shaped = and-right (shaped g) (allShaped gs) s
+
+pub each-shaped : (gs : List Gate) → allShaped gs ≡ true → (v : ℕ) → v < length gs → shaped (getD gs v noGate) ≡ true
+each-shaped [] s v l = absurd (omega arith)
+each-shaped (g ∷ gs) s zero l = first-shaped g gs s
+each-shaped (g ∷ gs) s (suc v) l = each-shaped gs (rest-shaped g gs s) v (omega arith)
+
+-- ---- flip-flops
+
+flip-flop-code : (k : Kind) → isFlipFlop k ≡ true → codeOf k ≡ 13
+flip-flop-code And2 e = absurd (false≢true e)
+flip-flop-code Xor2 e = absurd (false≢true e)
+flip-flop-code And3 e = absurd (false≢true e)
+flip-flop-code Xor3 e = absurd (false≢true e)
+flip-flop-code Maj e = absurd (false≢true e)
+flip-flop-code Mux e = absurd (false≢true e)
+flip-flop-code AndN e = absurd (false≢true e)
+flip-flop-code OrN e = absurd (false≢true e)
+flip-flop-code NandN e = absurd (false≢true e)
+flip-flop-code NorN e = absurd (false≢true e)
+flip-flop-code XorN e = absurd (false≢true e)
+flip-flop-code XnorN e = absurd (false≢true e)
+flip-flop-code Buf e = absurd (false≢true e)
+flip-flop-code Dff e = refl
+flip-flop-code Lut e = absurd (false≢true e)
+
+-- of a gate that is shaped: a Dff is what has its code
+pub dff-kind : (g : Gate) → shaped g ≡ true → isDff g ≡ true → g .kind ≡ 13
+dff-kind g s e = sym (code-kind (g .kind) (kind-small g s)) ∙ flip-flop-code (kindOf (g .kind)) e
+
+pub kind-dff : (g : Gate) → g .kind ≡ 13 → isDff g ≡ true
+unfolding kindOf
+kind-dff g q = ap (λ (c : ℕ). isFlipFlop (kindOf c)) q

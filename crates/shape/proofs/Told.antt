@@ -26,7 +26,7 @@ pub record Tells (b : Bool) (L : Type 0) : Type 0 where
   pub clear : b ≡ true → ¬ L
   pub met : b ≡ false → L
 
-clash : {X : Type 0} {b : Bool} → b ≡ true → b ≡ false → X
+pub clash : {X : Type 0} {b : Bool} → b ≡ true → b ≡ false → X
 clash p q = absurd (false≢true (sym q ∙ p))
 
 -- ---- 2 and 3
