@@ -27,11 +27,12 @@ framed-is img e =
     let d = leb (spanIn img) (length img) in
     let r = and-right a (b && (c && d)) e in
     let q = and-right b (c && d) r in
-    record
-      { long = leb-true 16 (length img) (and-left a (b && (c && d)) e);
-        least = leb-true 16 (spanIn img) (and-left b (c && d) r);
-        whole = eqb-true (spanIn img % 4) 0 (and-left c d q);
-        inside = leb-true (spanIn img) (length img) (and-right c d q) }
+    record {
+      long = leb-true 16 (length img) (and-left a (b && (c && d)) e);
+      least = leb-true 16 (spanIn img) (and-left b (c && d) r);
+      whole = eqb-true (spanIn img % 4) 0 (and-left c d q);
+      inside = leb-true (spanIn img) (length img) (and-right c d q);
+    }
 
 pub framed-of : (img : List ℕ) → Framed img → framed img ≡ true
 unfolding framed
@@ -51,10 +52,11 @@ within-is img e =
     let b = leb (nodesIn img) 512 in
     let c = leb (outsIn img) 64 in
     let r = and-right a (b && c) e in
-    record
-      { inputs-few = leb-true (inputsIn img) 1024 (and-left a (b && c) e);
-        nodes-few = leb-true (nodesIn img) 512 (and-left b c r);
-        outs-few = leb-true (outsIn img) 64 (and-right b c r) }
+    record {
+      inputs-few = leb-true (inputsIn img) 1024 (and-left a (b && c) e);
+      nodes-few = leb-true (nodesIn img) 512 (and-left b c r);
+      outs-few = leb-true (outsIn img) 64 (and-right b c r);
+    }
 
 pub within-of : (img : List ℕ) → Within img → within img ≡ true
 unfolding within
@@ -69,9 +71,10 @@ pub laid-is : (n o : ℕ) (ws : List ℕ) → laid n o ws ≡ true → LaidOut n
 unfolding laid
 laid-is n o ws e =
     let t = eqb (endFrom n ws 0 + (o + 4)) (length ws) in
-    record
-      { sound = and-left (soundFrom n ws 0) t e;
-        ends = eqb-true (endFrom n ws 0 + (o + 4)) (length ws) (and-right (soundFrom n ws 0) t e) }
+    record {
+      sound = and-left (soundFrom n ws 0) t e;
+      ends = eqb-true (endFrom n ws 0 + (o + 4)) (length ws) (and-right (soundFrom n ws 0) t e);
+    }
 
 pub laid-of : (n o : ℕ) (ws : List ℕ) → LaidOut n o ws → laid n o ws ≡ true
 unfolding laid
@@ -102,18 +105,24 @@ accepted img e =
     let t = two-inv (framed img) (within img) (bodyRefusal (inputsIn img) (nodesIn img) (outsIn img) (wordsOf img)) e in
     let n = netIn (inputsIn img) (nodesIn img) (outsIn img) (wordsOf img) in
     let h = three-inv (laid (nodesIn img) (outsIn img) (wordsOf img)) (leb (fanin (n .nodes)) 2048) (wired n) (t .2) in
-    record
-      { frame = framed-is img (t .0);
-        limits = within-is img (t .1);
-        layout = laid-is (nodesIn img) (outsIn img) (wordsOf img) (h .0);
-        few = leb-true (fanin (n .nodes)) 2048 (h .1);
-        wires = h .2 }
+    record {
+      frame = framed-is img (t .0);
+      limits = within-is img (t .1);
+      layout = laid-is (nodesIn img) (outsIn img) (wordsOf img) (h .0);
+      few = leb-true (fanin (n .nodes)) 2048 (h .1);
+      wires = h .2;
+    }
 
 pub accepts : (img : List ℕ) → Accepted img → refusalOf img ≡ 0
 unfolding refusalOf bodyRefusal netOf
 accepts img a =
-    simp (framed-of img (a .frame), within-of img (a .limits), laid-of (nodesIn img) (outsIn img) (wordsOf img) (a .layout),
-      le-leb (fanin (netOf img .nodes)) 2048 (a .few), a .wires)
+    simp (
+      framed-of img (a .frame),
+      within-of img (a .limits),
+      laid-of (nodesIn img) (outsIn img) (wordsOf img) (a .layout),
+      le-leb (fanin (netOf img .nodes)) 2048 (a .few),
+      a .wires,
+    )
 
 -- nor 7
 pub accepts-sorted : (img : List ℕ) → refusalOf img ≡ 0 → isTopoSorted (netOf img) ≡ true → sortedRefusalOf img ≡ 0

@@ -48,20 +48,25 @@ sounds-back (g ∷ gs) r s l =
     let ws = gateWords g ++ (gatesWords gs ++ r) in
     simp (words-cons g gs, append-assoc, sound-suc, size-back g (gatesWords gs ++ r) a, sound-back g (gatesWords gs ++ r) a (omega arith))
     (ap (λ (n : ℕ). soundFrom (length gs) ws n) (zero-add (length (gateWords g)) ∙ sym (add-zero (length (gateWords g))))
-      ∙ sym (sounds-drop (length gs) (length (gateWords g)) ws 0)
-      ∙ ap (λ (l : List ℕ). soundFrom (length gs) l 0) (drop-append-seam (gateWords g) (gatesWords gs ++ r))
-      ∙ sounds-back gs r (rest-shaped g gs s) (omega arith))
+    ∙ sym (sounds-drop (length gs) (length (gateWords g)) ws 0)
+    ∙ ap (λ (l : List ℕ). soundFrom (length gs) l 0) (drop-append-seam (gateWords g) (gatesWords gs ++ r))
+    ∙ sounds-back gs r (rest-shaped g gs s) (omega arith))
 
 -- ---- so the image is accepted
 
 module _ (n : Net) (v : Valid n) where
   laid-back : LaidOut (size n) (length (n .outs)) (gatesWords (n .nodes) ++ (n .outs ++ trailer n))
   laid-back =
-      record
-        { sound = sounds-back (n .nodes) (n .outs ++ trailer n) (v .gates-shaped) (v .ins-few);
-          ends =
-            omega (arith, end-back (n .nodes) (n .outs ++ trailer n) (v .gates-shaped),
-              length-append (gatesWords (n .nodes)) (n .outs ++ trailer n), length-append (n .outs) (trailer n)) }
+      record {
+        sound = sounds-back (n .nodes) (n .outs ++ trailer n) (v .gates-shaped) (v .ins-few);
+        ends =
+            omega (
+              arith,
+              end-back (n .nodes) (n .outs ++ trailer n) (v .gates-shaped),
+              length-append (gatesWords (n .nodes)) (n .outs ++ trailer n),
+              length-append (n .outs) (trailer n),
+            );
+      }
 
   pub accepted-image : Accepted (imageOf n)
   accepted-image =
@@ -71,12 +76,13 @@ module _ (n : Net) (v : Valid n) where
       let o = outs-written n in
       let s = span-written n in
       let l = length-image n in
-      record
-        { frame = record { long = omega arith; least = omega arith; whole = omega arith; inside = omega arith };
-          limits = record { inputs-few = omega (arith, v .inputs-few); nodes-few = omega (arith, v .nodes-few); outs-few = omega (arith, v .outs-few) };
-          layout = rw (k, o, words-written n) laid-back;
-          few = rw r (v .ins-few);
-          wires = rw r (v .signals) }
+      record {
+        frame = record { long = omega arith; least = omega arith; whole = omega arith; inside = omega arith };
+        limits = record { inputs-few = omega (arith, v .inputs-few); nodes-few = omega (arith, v .nodes-few); outs-few = omega (arith, v .outs-few) };
+        layout = rw (k, o, words-written n) laid-back;
+        few = rw r (v .ins-few);
+        wires = rw r (v .signals);
+      }
 
   pub refusal-of-image : refusalOf (imageOf n) ≡ 0
   refusal-of-image = accepts (imageOf n) accepted-image

@@ -50,20 +50,20 @@ gate-forth ws at w l = go (isLut (getD ws at 0 % 256)) refl
         let fit : at + (1 + h / 256 + 2) ≤ length ws = simp e at l in
         simp (e, head, q, r)
         (sym
-          (ap (λ (n : ℕ). take n (drop at ws)) (add-assoc 1 (h / 256) 2)
-          ∙ part-head ws at (h / 256 + 2) (omega arith)
-          ∙ ap (λ (x : List ℕ). h ∷ x)
-            (take-add (h / 256) 2 (drop (at + 1) ws)
-            ∙ ap (λ (x : List ℕ). take (h / 256) (drop (at + 1) ws) ++ take 2 x) (drop-drop (h / 256) (at + 1) ws)
-            ∙ ap (λ (x : List ℕ). take (h / 256) (drop (at + 1) ws) ++ x)
-              (two-words ws (at + 1 + h / 256) (at + 2 + h / 256) (omega arith) (omega arith)))))
+        (ap (λ (n : ℕ). take n (drop at ws)) (add-assoc 1 (h / 256) 2)
+        ∙ part-head ws at (h / 256 + 2) (omega arith)
+        ∙ ap (λ (x : List ℕ). h ∷ x)
+        (take-add (h / 256) 2 (drop (at + 1) ws)
+        ∙ ap (λ (x : List ℕ). take (h / 256) (drop (at + 1) ws) ++ take 2 x) (drop-drop (h / 256) (at + 1) ws)
+        ∙ ap (λ (x : List ℕ). take (h / 256) (drop (at + 1) ws) ++ x)
+        (two-words ws (at + 1 + h / 256) (at + 2 + h / 256) (omega arith) (omega arith)))))
     go false e =
         let fit : at + (1 + h / 256 + 0) ≤ length ws = simp e at l in
         simp (e, head, append-nil, add-zero) (sym (part-head ws at (h / 256) (omega arith)))
 
 -- so have the gates of a walk
 pub gates-forth : (k : ℕ) (ws : List ℕ) (at : ℕ) → Words32 ws → endFrom k ws at ≤ length ws
-  → gatesWords (gatesFrom k ws at) ≡ take (endFrom k ws at - at) (drop at ws)
+    → gatesWords (gatesFrom k ws at) ≡ take (endFrom k ws at - at) (drop at ws)
 unfolding gatesWords gatesFrom endFrom
 gates-forth zero ws at w l = let z : at - at ≡ 0 = omega arith in simp z
 gates-forth (suc k) ws at w l =
@@ -72,23 +72,23 @@ gates-forth (suc k) ws at w l =
     let d : endFrom k ws (at + s) - at ≡ s + (endFrom k ws (at + s) - (at + s)) = omega arith in
     ap₂ {C = List ℕ} (λ x y. x ++ y) (gate-forth ws at w (omega arith)) (gates-forth k ws (at + s) w l)
     ∙ sym
-      (ap (λ (n : ℕ). take n (drop at ws)) d
-      ∙ take-add s (endFrom k ws (at + s) - (at + s)) (drop at ws)
-      ∙ ap (λ (x : List ℕ). take s (drop at ws) ++ take (endFrom k ws (at + s) - (at + s)) x) (drop-drop s at ws))
+    (ap (λ (n : ℕ). take n (drop at ws)) d
+    ∙ take-add s (endFrom k ws (at + s) - (at + s)) (drop at ws)
+    ∙ ap (λ (x : List ℕ). take s (drop at ws) ++ take (endFrom k ws (at + s) - (at + s)) x) (drop-drop s at ws))
 
 -- The trailer
 four-words : (ws : List ℕ) (m : ℕ) → m + 4 ≡ length ws
-  → drop m ws ≡ getD ws m 0 ∷ getD ws (m + 1) 0 ∷ getD ws (m + 2) 0 ∷ getD ws (m + 3) 0 ∷ []
+    → drop m ws ≡ getD ws m 0 ∷ getD ws (m + 1) 0 ∷ getD ws (m + 2) 0 ∷ getD ws (m + 3) 0 ∷ []
 four-words ws m e =
     simp (add-one, add-two, add-three)
     (drop-cons ws m 0 (omega arith)
     ∙ ap (λ (r : List ℕ). getD ws m 0 ∷ r)
-      (drop-cons ws (suc m) 0 (omega arith)
-      ∙ ap (λ (r : List ℕ). getD ws (suc m) 0 ∷ r)
-        (drop-cons ws (suc (suc m)) 0 (omega arith)
-        ∙ ap (λ (r : List ℕ). getD ws (suc (suc m)) 0 ∷ r)
-          (drop-cons ws (suc (suc (suc m))) 0 (omega arith)
-          ∙ ap (λ (r : List ℕ). getD ws (suc (suc (suc m))) 0 ∷ r) (drop-of-length-le ws {i = suc (suc (suc (suc m)))} (omega arith))))))
+    (drop-cons ws (suc m) 0 (omega arith)
+    ∙ ap (λ (r : List ℕ). getD ws (suc m) 0 ∷ r)
+    (drop-cons ws (suc (suc m)) 0 (omega arith)
+    ∙ ap (λ (r : List ℕ). getD ws (suc (suc m)) 0 ∷ r)
+    (drop-cons ws (suc (suc (suc m))) 0 (omega arith)
+    ∙ ap (λ (r : List ℕ). getD ws (suc (suc (suc m))) 0 ∷ r) (drop-of-length-le ws {i = suc (suc (suc (suc m)))} (omega arith))))))
 
 module _ (img : List ℕ) (f : Framed img) where
   pub length-body : length (bodyOf img) ≡ spanIn img
@@ -101,7 +101,7 @@ module _ (img : List ℕ) (f : Framed img) where
 
   -- a word of the body, in the image
   pub word-in : (i j : ℕ) → i < length (wordsOf img) → length img - spanIn img + 4 * i ≡ length img - j
-    → getD (wordsOf img) i 0 ≡ wordAt img (length img - j)
+      → getD (wordsOf img) i 0 ≡ wordAt img (length img - j)
   unfolding wordsOf bodyOf
   word-in i j l e =
       getD-words (bodyOf img) i (rw (← length-words) l)
@@ -133,9 +133,9 @@ net-forth img by a =
     let inside = f .inside in
     let lw = length-wordsOf img f in
     let g : gatesWords (gatesFrom n ws 0) ≡ take m ws =
-        gates-forth n ws 0 w (omega arith) ∙ ap (λ (x : ℕ). take x ws) (sub-zero m) in
+    gates-forth n ws 0 w (omega arith) ∙ ap (λ (x : ℕ). take x ws) (sub-zero m) in
     let p : gatesWords (gatesFrom n ws 0) ++ take o (drop m ws) ≡ take (m + o) ws =
-        ap (λ (x : List ℕ). x ++ take o (drop m ws)) g ∙ sym (take-add m o ws) in
+    ap (λ (x : List ℕ). x ++ take o (drop m ws)) g ∙ sym (take-add m o ws) in
     let lo : length (take o (drop m ws)) ≡ o = length-take-le o (drop m ws) (rw length-drop (omega arith)) in
     let lp : length (take (m + o) ws) ≡ m + o = length-take-le (m + o) ws (omega arith) in
     let d : 4 * (m + o + 4) ≡ spanIn img = omega arith in
@@ -145,7 +145,7 @@ net-forth img by a =
     let w3 = word-in img f (m + o + 3) 4 (omega arith) (omega arith) in
     simp (lp, lo, length-gates, p, d)
     (ap (λ (x : List ℕ). take (m + o) ws ++ x) (sym (four-words ws (m + o) (omega arith) ∙ simp (w0, w1, w2, w3)))
-      ∙ take-append-drop (m + o) ws)
+    ∙ take-append-drop (m + o) ws)
 
 pub image-of-net : (img : List ℕ) → Bytes img → refusalOf img ≡ 0 → imageOf (netOf img) ≡ bodyOf img
 unfolding imageOf

@@ -9,3 +9,6 @@ pub mod Sizes
 pub mod Records
 pub mod Told
 pub mod ToldSignals
+pub mod Ladder
+pub mod Numbers
+pub mod RoundTrips

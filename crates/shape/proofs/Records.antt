@@ -35,7 +35,7 @@ module _ (img : List ℕ) (k : ℕ) where
   record-part =
       by-bool (hasRecord img k)
       (λ h. rw (record-lies h)
-        (sym (take-length-take (4 * sizeAt (wordsOf img) (endFrom k (wordsOf img) 0)) (drop (recordAtOf img k) img))))
+      (sym (take-length-take (4 * sizeAt (wordsOf img) (endFrom k (wordsOf img) 0)) (drop (recordAtOf img k) img))))
       (λ h. rw (record-none h))
 
 -- ---- an accepted image has record k of each node k
@@ -60,7 +60,7 @@ module _ (img : List ℕ) (e : refusalOf img ≡ 0) (k : ℕ) (l : k < nodesIn i
       let m = 4 * sizeAt (wordsOf img) (endFrom k (wordsOf img) 0) in
       rw (record-lies img k has-record)
       (length-take-le m (drop (recordAtOf img k) img)
-        (rw length-drop (omega (arith, record-at, record-ends, length-wordsOf img f, f .inside))))
+      (rw length-drop (omega (arith, record-at, record-ends, length-wordsOf img f, f .inside))))
 
   -- node k's record, as a writer writes it
   pub record-of-gate : Bytes img → recordOf img k ≡ bytes (gateWords (gateAt (netOf img) k))

@@ -44,9 +44,9 @@ unfolding tableWords
 table-words g s =
     by-bool (isLut (g .kind))
     (λ e. let t : g .table < 18446744073709551616 = table-two g s e in
-      let l : g .table % 4294967296 < 4294967296 = omega arith in
-      let h : g .table / 4294967296 < 4294967296 = omega arith in
-      rw e (words-cons (g .table % 4294967296) (g .table / 4294967296 ∷ []) l (words-cons (g .table / 4294967296) [] h words-nil)))
+    let l : g .table % 4294967296 < 4294967296 = omega arith in
+    let h : g .table / 4294967296 < 4294967296 = omega arith in
+    rw e (words-cons (g .table % 4294967296) (g .table / 4294967296 ∷ []) l (words-cons (g .table / 4294967296) [] h words-nil)))
     (λ e. rw e words-nil)
 
 gate-words : (i n : ℕ) (g : Gate) → shaped g ≡ true → length (g .ins) ≤ 2048 → allNamed i n (g .ins) ≡ true → Words32 (gateWords g)
@@ -89,8 +89,8 @@ module _ (n : Net) (v : Valid n) where
   net-words =
       words-append (gatesWords (n .nodes) ++ n .outs) (trailer n)
       (words-append (gatesWords (n .nodes)) (n .outs)
-        (gates-words (n .inputs) (size n) (n .nodes) (v .gates-shaped) (v .ins-few) gates-wired)
-        (named-words (n .inputs) (size n) (n .outs) outs-wired))
+      (gates-words (n .inputs) (size n) (n .nodes) (v .gates-shaped) (v .ins-few) gates-wired)
+      (named-words (n .inputs) (size n) (n .outs) outs-wired))
       trailer-words
 
   pub bytes-image : Bytes (imageOf n)

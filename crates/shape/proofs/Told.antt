@@ -34,17 +34,18 @@ clash p q = absurd (false≢true (sym q ∙ p))
 pub tells-2 : (img : List ℕ) → Tells (framed img) (Line2 img)
 unfolding framed
 tells-2 img =
-    record
-      { clear = λ e. not2 (framed-is img e);
-        met =
+    record {
+      clear = λ e. not2 (framed-is img e);
+      met =
           λ e. ⊎-elim
-            (λ a. below-16 (leb-false 16 (length img) a))
-            (λ r. ⊎-elim
-              (λ a. span-below-16 (leb-false 16 (spanIn img) a))
-              (λ q. ⊎-elim (λ a. span-not-by-4 (eqb-false (spanIn img % 4) 0 a)) (λ a. span-past (leb-false (spanIn img) (length img) a))
-                (and-split (eqb (spanIn img % 4) 0) (leb (spanIn img) (length img)) q))
-              (and-split (leb 16 (spanIn img)) (eqb (spanIn img % 4) 0 && leb (spanIn img) (length img)) r))
-            (and-split (leb 16 (length img)) (leb 16 (spanIn img) && (eqb (spanIn img % 4) 0 && leb (spanIn img) (length img))) e) }
+          (λ a. below-16 (leb-false 16 (length img) a))
+          (λ r. ⊎-elim
+          (λ a. span-below-16 (leb-false 16 (spanIn img) a))
+          (λ q. ⊎-elim (λ a. span-not-by-4 (eqb-false (spanIn img % 4) 0 a)) (λ a. span-past (leb-false (spanIn img) (length img) a))
+          (and-split (eqb (spanIn img % 4) 0) (leb (spanIn img) (length img)) q))
+          (and-split (leb 16 (spanIn img)) (eqb (spanIn img % 4) 0 && leb (spanIn img) (length img)) r))
+          (and-split (leb 16 (length img)) (leb 16 (spanIn img) && (eqb (spanIn img % 4) 0 && leb (spanIn img) (length img))) e);
+    }
   where
     not2 : Framed img → ¬ Line2 img
     not2 f (below-16 l) = omega (arith, f .long)
@@ -55,14 +56,15 @@ tells-2 img =
 pub tells-3 : (img : List ℕ) → Tells (within img) (Line3 img)
 unfolding within
 tells-3 img =
-    record
-      { clear = λ e. not3 (within-is img e);
-        met =
+    record {
+      clear = λ e. not3 (within-is img e);
+      met =
           λ e. ⊎-elim
-            (λ a. many-inputs (leb-false (inputsIn img) 1024 a))
-            (λ r. ⊎-elim (λ a. many-nodes (leb-false (nodesIn img) 512 a)) (λ a. many-outputs (leb-false (outsIn img) 64 a))
-              (and-split (leb (nodesIn img) 512) (leb (outsIn img) 64) r))
-            (and-split (leb (inputsIn img) 1024) (leb (nodesIn img) 512 && leb (outsIn img) 64) e) }
+          (λ a. many-inputs (leb-false (inputsIn img) 1024 a))
+          (λ r. ⊎-elim (λ a. many-nodes (leb-false (nodesIn img) 512 a)) (λ a. many-outputs (leb-false (outsIn img) 64 a))
+          (and-split (leb (nodesIn img) 512) (leb (outsIn img) 64) r))
+          (and-split (leb (inputsIn img) 1024) (leb (nodesIn img) 512 && leb (outsIn img) 64) e);
+    }
   where
     not3 : Within img → ¬ Line3 img
     not3 w (many-inputs l) = omega (arith, w .inputs-few)
@@ -126,13 +128,14 @@ dff-inputs n e = eqb-true n 3 e
 
 arity : (code n : ℕ) → fitsCode code n ≡ true → Arity code n
 arity code n e =
-    record
-      { is-code = let l : code < 15 = code-small code n e in omega arith;
-        and2-xor2 = two-inputs code n e;
-        and3-to-mux = three-inputs code n e;
-        buf = λ q. buf-inputs n (at-code code 12 n e q);
-        dff = λ q. dff-inputs n (at-code code 13 n e q);
-        lut = λ q. lut-small code n e q }
+    record {
+      is-code = let l : code < 15 = code-small code n e in omega arith;
+      and2-xor2 = two-inputs code n e;
+      and3-to-mux = three-inputs code n e;
+      buf = λ q. buf-inputs n (at-code code 12 n e q);
+      dff = λ q. dff-inputs n (at-code code 13 n e q);
+      lut = λ q. lut-small code n e q;
+    }
 
 -- ---- 4: a record
 
@@ -161,7 +164,7 @@ module _ (ws : List ℕ) (at : ℕ) where
       (and-right (ltb h 16777216 && c) t s)
     where
       go : getD ws at 0 < 16777216 → Arity (codeAt ws at) (countAt ws at) → fitsTable (codeAt ws at) (countAt ws at) (tableAt ws at) ≡ true
-        → ¬ Breaks ws at
+          → ¬ Breaks ws at
       go h c t (top-bits l) = omega arith
       go h c t (no-kind l) = l c
       go h c t (high-bits q l) = let m = table-below (codeAt ws at) (countAt ws at) (tableAt ws at) t q in omega arith
@@ -174,12 +177,12 @@ module _ (ws : List ℕ) (at : ℕ) where
       let t = fitsTable (h % 256) (h / 256) (tableAt ws at) in
       ⊎-elim
       (λ (p : (ltb h 16777216 && c) ≡ false). ⊎-elim
-        (λ (a : ltb h 16777216 ≡ false). top-bits (ltb-false h 16777216 a))
-        (λ (a : c ≡ false). no-kind (λ (k : Arity (h % 256) (h / 256)). clash (code-fits (h % 256) (h / 256) k) a))
-        (and-split (ltb h 16777216) c p))
+      (λ (a : ltb h 16777216 ≡ false). top-bits (ltb-false h 16777216 a))
+      (λ (a : c ≡ false). no-kind (λ (k : Arity (h % 256) (h / 256)). clash (code-fits (h % 256) (h / 256) k) a))
+      (and-split (ltb h 16777216) c p))
       (λ (p : t ≡ false). by-bool (isLut (h % 256))
-        (λ q. high-bits (eqb-true (h % 256) 14 q) (table-above (h % 256) (h / 256) (tableAt ws at) p q))
-        (λ q. clash (table-fits ws at (h / 256) q) p))
+      (λ q. high-bits (eqb-true (h % 256) 14 q) (table-above (h % 256) (h / 256) (tableAt ws at) p q))
+      (λ q. clash (table-fits ws at (h / 256) q) p))
       (and-split (ltb h 16777216 && c) t s)
 
 -- ---- 4: the records
@@ -203,8 +206,8 @@ unsound-one (suc n) ws at s =
     ⊎-elim
     (λ (a : soundAt ws at ≡ false). record { number = 0; inside = omega arith; unsound = a })
     (λ (a : soundFrom n ws (at + sizeAt ws at) ≡ false).
-      let u = unsound-one n ws (at + sizeAt ws at) a in
-      record { number = suc (u .number); inside = let l = u .inside in omega arith; unsound = u .unsound })
+    let u = unsound-one n ws (at + sizeAt ws at) a in
+    record { number = suc (u .number); inside = let l = u .inside in omega arith; unsound = u .unsound })
     (and-split (soundAt ws at) (soundFrom n ws (at + sizeAt ws at)) s)
 
 pub tells-4 : (img : List ℕ) → Tells (laid (nodesIn img) (outsIn img) (wordsOf img)) (Line4 img)
@@ -212,16 +215,17 @@ unfolding laid
 tells-4 img =
     let n = nodesIn img in
     let ws = wordsOf img in
-    record
-      { clear = λ e. not4 (laid-is n (outsIn img) ws e);
-        met =
+    record {
+      clear = λ e. not4 (laid-is n (outsIn img) ws e);
+      met =
           λ e. ⊎-elim
-            (λ (a : soundFrom n ws 0 ≡ false).
-              let u = unsound-one n ws 0 a in
-              record-breaks (u .number) (u .inside) (broken ws (endFrom (u .number) ws 0) (u .unsound)))
-            (λ (a : eqb (endFrom n ws 0 + (outsIn img + 4)) (length ws) ≡ false).
-              ends-elsewhere (eqb-false (endFrom n ws 0 + (outsIn img + 4)) (length ws) a))
-            (and-split (soundFrom n ws 0) (eqb (endFrom n ws 0 + (outsIn img + 4)) (length ws)) e) }
+          (λ (a : soundFrom n ws 0 ≡ false).
+          let u = unsound-one n ws 0 a in
+          record-breaks (u .number) (u .inside) (broken ws (endFrom (u .number) ws 0) (u .unsound)))
+          (λ (a : eqb (endFrom n ws 0 + (outsIn img + 4)) (length ws) ≡ false).
+          ends-elsewhere (eqb-false (endFrom n ws 0 + (outsIn img + 4)) (length ws) a))
+          (and-split (soundFrom n ws 0) (eqb (endFrom n ws 0 + (outsIn img + 4)) (length ws)) e);
+    }
   where
     not4 : LaidOut (nodesIn img) (outsIn img) (wordsOf img) → ¬ Line4 img
     not4 l (record-breaks k m b) =
@@ -232,6 +236,7 @@ tells-4 img =
 
 pub tells-5 : (img : List ℕ) → Tells (leb (fanin (netOf img .nodes)) 2048) (Line5 img)
 tells-5 img =
-    record
-      { clear = λ e m. let l = leb-true (fanin (netOf img .nodes)) 2048 e in omega arith;
-        met = λ e. leb-false (fanin (netOf img .nodes)) 2048 e }
+    record {
+      clear = λ e m. let l = leb-true (fanin (netOf img .nodes)) 2048 e in omega arith;
+      met = λ e. leb-false (fanin (netOf img .nodes)) 2048 e;
+    }

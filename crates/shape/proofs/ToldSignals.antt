@@ -88,8 +88,8 @@ module _ {A : Type 0} (d : A) (t : A → Bool) (all : List A → Bool) (nil : al
       ⊎-elim
       (λ (a : t x ≡ false). record { place = 0; inside = omega arith; fails = a })
       (λ (a : all l ≡ false).
-        let r = some-one l a in
-        record { place = suc (r .place); inside = let k = r .inside in omega arith; fails = r .fails })
+      let r = some-one l a in
+      record { place = suc (r .place); inside = let k = r .inside in omega arith; fails = r .fails })
       (and-split (t x) (all l) (sym (cons x l) ∙ e))
 
 standing : (l : List ℕ) (k : ℕ) → k < length l → In (getD l k 0) l
@@ -143,15 +143,16 @@ module _ (N : Net) where
       let some = some-one 0 (named i n) (allNamed i n) (named-nil i n) (named-cons i n) in
       ⊎-elim
       (λ (a : gatesNamed i n (N .nodes) ≡ false).
-        let g = some-one noGate (λ x. allNamed i n (x .ins)) (gatesNamed i n) (gates-nil i n) (gates-cons i n) (N .nodes) a in
-        let r = some (gateAt N (g .place) .ins) (g .fails) in
-        record
-          { it = getD (gateAt N (g .place) .ins) (r .place) 0;
-            used = gate-input (g .place) (g .inside) (standing (gateAt N (g .place) .ins) (r .place) (r .inside));
-            lost = r .fails })
+      let g = some-one noGate (λ x. allNamed i n (x .ins)) (gatesNamed i n) (gates-nil i n) (gates-cons i n) (N .nodes) a in
+      let r = some (gateAt N (g .place) .ins) (g .fails) in
+      record {
+        it = getD (gateAt N (g .place) .ins) (r .place) 0;
+        used = gate-input (g .place) (g .inside) (standing (gateAt N (g .place) .ins) (r .place) (r .inside));
+        lost = r .fails;
+      })
       (λ (a : allNamed i n (N .outs) ≡ false).
-        let r = some (N .outs) a in
-        record { it = getD (N .outs) (r .place) 0; used = output (standing (N .outs) (r .place) (r .inside)); lost = r .fails })
+      let r = some (N .outs) a in
+      record { it = getD (N .outs) (r .place) 0; used = output (standing (N .outs) (r .place) (r .inside)); lost = r .fails })
       (and-split (gatesNamed i n (N .nodes)) (allNamed i n (N .outs)) e)
 
 size-net : (img : List ℕ) → size (netOf img) ≡ nodesIn img
@@ -167,20 +168,22 @@ named-net img s = rw (size-net img, inputs-net img)
 
 pub tells-6 : (img : List ℕ) → Within img → Tells (wired (netOf img)) (Line6 img)
 tells-6 img w =
-    record
-      { clear =
+    record {
+      clear =
           λ e l. l .absent
-            (present (inputsIn img) (nodesIn img) (l .signal) (sym (named-net img (l .signal)) ∙ wired-each (netOf img) e (l .signal) (l .used)));
-        met =
+          (present (inputsIn img) (nodesIn img) (l .signal) (sym (named-net img (l .signal)) ∙ wired-each (netOf img) e (l .signal) (l .used)));
+      met =
           λ e.
-            let r = lost-one (netOf img) e in
-            record
-              { signal = r .it;
-                used = r .used;
-                absent =
-                  λ p. clash
-                    (present-named (inputsIn img) (nodesIn img) (r .it) (w .inputs-few) (w .nodes-few) p)
-                    (sym (named-net img (r .it)) ∙ r .lost) } }
+          let r = lost-one (netOf img) e in
+          record {
+            signal = r .it;
+            used = r .used;
+            absent =
+                λ p. clash
+                (present-named (inputsIn img) (nodesIn img) (r .it) (w .inputs-few) (w .nodes-few) p)
+                (sym (named-net img (r .it)) ∙ r .lost);
+          };
+    }
 
 -- ---- 7
 
@@ -257,9 +260,9 @@ misplaced-one (g ∷ gs) u e =
     ⊎-elim
     (λ (a : inPlace u g ≡ false). record { at = 0; inside = omega arith; misplaced = rw add-zero a })
     (λ (a : sortedFrom (suc u) gs ≡ false).
-      let r = misplaced-one gs (suc u) a in
-      let q : u + suc (r .at) ≡ suc u + r .at = omega arith in
-      record { at = suc (r .at); inside = let k = r .inside in omega arith; misplaced = rw q (r .misplaced) })
+    let r = misplaced-one gs (suc u) a in
+    let q : u + suc (r .at) ≡ suc u + r .at = omega arith in
+    record { at = suc (r .at); inside = let k = r .inside in omega arith; misplaced = rw q (r .misplaced) })
     (and-split (inPlace u g) (sortedFrom (suc u) gs) e)
 
 module _ (img : List ℕ) (a : Accepted img) where
@@ -294,17 +297,18 @@ module _ (img : List ℕ) (a : Accepted img) where
       let r = reaches v s (f .fails) in
       let u : In s (g .ins) = standing (g .ins) (f .place) (f .inside) in
       let n : namedRef (netOf img .inputs) (size (netOf img)) (rnode (r .node-is)) ≡ true =
-          rw (r .named-so) at (named-ref (netOf img .inputs) (size (netOf img)) s (wired-each (netOf img) (a .wires) s (gate-input v (m .inside) u))) in
-      record
-        { gate = v;
-          gate-is = rw (size-net img) at (m .inside);
-          combinational = λ k. clash (kind-dff g k) (or-false-left (isDff g) (allBelow v (g .ins)) p);
-          signal = s;
-          used = u;
-          named = r .node-is;
-          named-is = rw (size-net img) at (ltb-true (r .node-is) (size (netOf img)) n);
-          names = ref-spells s (r .node-is) (r .named-so);
-          not-below = r .above }
+      rw (r .named-so) at (named-ref (netOf img .inputs) (size (netOf img)) s (wired-each (netOf img) (a .wires) s (gate-input v (m .inside) u))) in
+      record {
+        gate = v;
+        gate-is = rw (size-net img) at (m .inside);
+        combinational = λ k. clash (kind-dff g k) (or-false-left (isDff g) (allBelow v (g .ins)) p);
+        signal = s;
+        used = u;
+        named = r .node-is;
+        named-is = rw (size-net img) at (ltb-true (r .node-is) (size (netOf img)) n);
+        names = ref-spells s (r .node-is) (r .named-so);
+        not-below = r .above;
+      }
 
   pub tells-7 : Tells (isTopoSorted (netOf img)) (Line7 img)
   tells-7 = record { clear = sorted-clear; met = sorted-met }

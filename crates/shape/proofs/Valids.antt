@@ -47,13 +47,14 @@ module _ (img : List ℕ) (a : Accepted img) where
   unfolding netOf netIn
   valid-accepted =
       let e = a .layout .ends in
-      record
-        { inputs-few = a .limits .inputs-few;
-          nodes-few = omega (arith, a .limits .nodes-few, length-nodes);
-          outs-few = omega (arith, a .limits .outs-few, length-outs);
-          gates-shaped = gates-shaped (nodesIn img) (wordsOf img) 0 (a .layout .sound) (omega arith);
-          ins-few = a .few;
-          signals = a .wires }
+      record {
+        inputs-few = a .limits .inputs-few;
+        nodes-few = omega (arith, a .limits .nodes-few, length-nodes);
+        outs-few = omega (arith, a .limits .outs-few, length-outs);
+        gates-shaped = gates-shaped (nodesIn img) (wordsOf img) 0 (a .layout .sound) (omega arith);
+        ins-few = a .few;
+        signals = a .wires;
+      }
 
 pub valid-net : (img : List ℕ) → refusalOf img ≡ 0 → Valid (netOf img)
 valid-net img e = valid-accepted img (accepted img e)

@@ -56,9 +56,15 @@ module _ (g : Gate) (r : List ℕ) (t : shaped g ≡ true) where
     where
       go : (b : Bool) → isLut (g .kind) ≡ b → tableAt (gateWords g ++ r) 0 ≡ g .table
       go true e =
-          simp (header-back .0, header-back .1, e, one-add, two-add,
+          simp (
+            header-back .0,
+            header-back .1,
+            e,
+            one-add,
+            two-add,
             first-of (g .ins) (g .table % 4294967296) (g .table / 4294967296) r,
-            second-of (g .ins) (g .table % 4294967296) (g .table / 4294967296) r)
+            second-of (g .ins) (g .table % 4294967296) (g .table / 4294967296) r,
+          )
           (omega arith)
       go false e =
           simp (header-back .0, e) (sym (table-none g t e))
@@ -76,10 +82,10 @@ gates-back (g ∷ gs) r t =
     let b = rest-shaped g gs t in
     simp (append-assoc)
     (ap₂ {C = List Gate} (λ x xs. x ∷ xs) (gate-back g (gatesWords gs ++ r) a)
-      (simp (size-back g (gatesWords gs ++ r) a, zero-add)
-        (ap (λ (n : ℕ). gatesFrom (length gs) (gateWords g ++ (gatesWords gs ++ r)) n) (sym (add-zero (length (gateWords g))))
-          ∙ sym (gates-drop (length gs) (length (gateWords g)) (gateWords g ++ (gatesWords gs ++ r)) 0)
-          ∙ simp drop-append-seam (gates-back gs r b))))
+    (simp (size-back g (gatesWords gs ++ r) a, zero-add)
+    (ap (λ (n : ℕ). gatesFrom (length gs) (gateWords g ++ (gatesWords gs ++ r)) n) (sym (add-zero (length (gateWords g))))
+    ∙ sym (gates-drop (length gs) (length (gateWords g)) (gateWords g ++ (gatesWords gs ++ r)) 0)
+    ∙ simp drop-append-seam (gates-back gs r b))))
 
 end-none : (ws : List ℕ) (at : ℕ) → endFrom 0 ws at ≡ at
 unfolding endFrom
@@ -105,9 +111,9 @@ end-back (g ∷ gs) r t =
     let ws = gateWords g ++ (gatesWords gs ++ r) in
     simp (words-cons g gs, append-assoc, end-suc, size-back g (gatesWords gs ++ r) a, length-append)
     (ap (λ (n : ℕ). endFrom (length gs) ws n) (zero-add (length (gateWords g)) ∙ sym (add-zero (length (gateWords g))))
-      ∙ sym (end-drop (length gs) (length (gateWords g)) ws 0)
-      ∙ ap (λ (l : List ℕ). length (gateWords g) + endFrom (length gs) l 0) (drop-append-seam (gateWords g) (gatesWords gs ++ r))
-      ∙ ap (λ (n : ℕ). length (gateWords g) + n) (end-back gs r b))
+    ∙ sym (end-drop (length gs) (length (gateWords g)) ws 0)
+    ∙ ap (λ (l : List ℕ). length (gateWords g) + endFrom (length gs) l 0) (drop-append-seam (gateWords g) (gatesWords gs ++ r))
+    ∙ ap (λ (n : ℕ). length (gateWords g) + n) (end-back gs r b))
 
 -- a word of the bytes of words
 pub word-of : (ws : List ℕ) (i : ℕ) → i < length ws → wordAt (bytes ws) (4 * i) ≡ getD ws i 0
@@ -125,7 +131,7 @@ module _ (n : Net) where
   length-image = length-bytes (bodyWords n ++ trailer n) ∙ rw length-append
 
   trailer-word : (i j : ℕ) → i < 4 → length (imageOf n) - j ≡ 4 * (length (bodyWords n) + i)
-    → wordAt (imageOf n) (length (imageOf n) - j) ≡ getD (trailer n) i 0
+      → wordAt (imageOf n) (length (imageOf n) - j) ≡ getD (trailer n) i 0
   unfolding imageOf netWords
   trailer-word i j l e =
       ap (λ (m : ℕ). wordAt (bytes (bodyWords n ++ trailer n)) m) e
@@ -166,5 +172,5 @@ module _ (n : Net) where
       net-eq inputs-written
       (ap₂ {C = List Gate} (λ x ws. gatesFrom x ws 0) nodes-written words-written ∙ gates-back (n .nodes) (n .outs ++ trailer n) t)
       (ap (λ (x : ℕ). take x (drop (endFrom (nodesIn (imageOf n)) (wordsOf (imageOf n)) 0) (wordsOf (imageOf n)))) outs-written
-        ∙ ap₂ {C = List ℕ} (λ x ws. take (length (n .outs)) (drop (endFrom x ws 0) ws)) nodes-written words-written
-        ∙ simp (end-back (n .nodes) (n .outs ++ trailer n) t, drop-append-seam, take-append-seam))
+      ∙ ap₂ {C = List ℕ} (λ x ws. take (length (n .outs)) (drop (endFrom x ws 0) ws)) nodes-written words-written
+      ∙ simp (end-back (n .nodes) (n .outs ++ trailer n) t, drop-append-seam, take-append-seam))
