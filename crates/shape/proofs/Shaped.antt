@@ -21,7 +21,7 @@ code-small code n e = ltb-true code 15 (and-left (ltb code 15) (fitsKind (kindOf
 
 -- a Lut has at most 6 inputs
 pub lut-small : (code n : ℕ) → fitsCode code n ≡ true → code ≡ 14 → n ≤ 6
-unfolding fitsCode fitsKind
+unfolding fitsCode
 lut-small code n e q =
     let f : fitsKind (kindOf code) n ≡ true = and-right (ltb code 15) (fitsKind (kindOf code) n) e in
     leb-true n 6 (sym (ap (λ (c : ℕ). fitsKind (kindOf c) n) q ∙ ap (λ k. fitsKind k n) (kind-code Lut)) ∙ f)

@@ -74,7 +74,6 @@ tells-3 img =
 -- ---- 4: the table of kinds
 
 kind-fits : (k : Kind) (n : ℕ) → Arity (codeOf k) n → fitsKind k n ≡ true
-unfolding fitsKind
 kind-fits And2 n a = eq-eqb n 2 (a .and2-xor2 (omega arith))
 kind-fits Xor2 n a = eq-eqb n 2 (a .and2-xor2 (omega arith))
 kind-fits And3 n a = eq-eqb n 3 (a .and3-to-mux (omega arith) (omega arith))
@@ -100,13 +99,13 @@ code-fits code n a =
 
 -- the fields of the table, read off the test
 two-inputs : (code n : ℕ) → fitsCode code n ≡ true → code ≤ 1 → n ≡ 2
-unfolding fitsCode fitsKind kindOf
+unfolding fitsCode kindOf
 two-inputs zero n e l = eqb-true n 2 e
 two-inputs (suc zero) n e l = eqb-true n 2 e
 two-inputs (suc (suc c)) n e l = absurd (omega arith)
 
 three-inputs : (code n : ℕ) → fitsCode code n ≡ true → 2 ≤ code → code ≤ 5 → n ≡ 3
-unfolding fitsCode fitsKind kindOf
+unfolding fitsCode kindOf
 three-inputs zero n e l m = absurd (omega arith)
 three-inputs (suc zero) n e l m = absurd (omega arith)
 three-inputs (suc (suc zero)) n e l m = eqb-true n 3 e
@@ -119,11 +118,11 @@ at-code : (code c n : ℕ) → fitsCode code n ≡ true → code ≡ c → fitsC
 at-code code c n e q = rw q at e
 
 buf-inputs : (n : ℕ) → fitsCode 12 n ≡ true → n ≡ 1
-unfolding fitsCode fitsKind kindOf
+unfolding fitsCode kindOf
 buf-inputs n e = eqb-true n 1 e
 
 dff-inputs : (n : ℕ) → fitsCode 13 n ≡ true → n ≡ 3
-unfolding fitsCode fitsKind kindOf
+unfolding fitsCode kindOf
 dff-inputs n e = eqb-true n 3 e
 
 arity : (code n : ℕ) → fitsCode code n ≡ true → Arity code n
