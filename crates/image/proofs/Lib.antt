@@ -1,1 +1,4 @@
 pub mod Fits
+pub mod Layouts
+pub mod Frames
+pub mod Wires

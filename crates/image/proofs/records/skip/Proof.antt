@@ -1,3 +1,7 @@
+use mathlib.Core.Path.{_≡_}
+use borrow.Author.Needs.{needs}
+use Rattle.model.specs.Image.{words, endFrom}
+use Rattle.image.proofs.Layouts.{walks}
 use Rattle.image.proofs.records.skip.Statement.{statement}
 use Rattle.image.proofs.records.skip.Tie as tie
 use Rattle.image.proofs.records.skip.Reads as reads
@@ -6,42 +10,34 @@ use Rattle.image.proofs.records.size_of.Reads as size-of-reads
 use Rattle.words.proofs.nth.Reads as nth-reads
 
 abbrev Inv-loop : tie.InvT-loop
-Inv-loop body k left₀ at₀ left at = ?
+Inv-loop body k left₀ at₀ left at = endFrom left (words body) at ≡ endFrom k (words body) 0
 
 abbrev μ-loop : tie.MeasureT-loop
-μ-loop body k left₀ at₀ left at = ?
+μ-loop body k left₀ at₀ left at = left
 
--- src/records.rt:142:5
 loop-holds : tie.Need-loop-holds Inv-loop μ-loop
-loop-holds c = ?
+loop-holds c = search (needs, walks)
 
--- src/records.rt:143:23
 nth-requires : tie.Need-nth-requires Inv-loop μ-loop
-nth-requires c κs = ?
+nth-requires c κs = search (needs, walks)
 
--- src/records.rt:143:15
 size-of-requires : tie.Need-size-of-requires Inv-loop μ-loop
-size-of-requires c κs = ?
+size-of-requires c κs = search (needs, walks)
 
--- src/records.rt:143:9
 add-at : tie.Need-add-at Inv-loop μ-loop
-add-at c = ?
+add-at c = search (needs, walks)
 
--- src/records.rt:144:9
 sub-left : tie.Need-sub-left Inv-loop μ-loop
-sub-left c = ?
+sub-left c = search (needs, walks)
 
--- src/records.rt:142:5
 loop-less : tie.Need-loop-less Inv-loop μ-loop
-loop-less c = ?
+loop-less c = search (needs, walks)
 
--- src/records.rt:142:5
 loop-again : tie.Need-loop-again Inv-loop μ-loop
-loop-again c = ?
+loop-again c = search (needs, walks)
 
--- src/records.rt:136:1
 returns : tie.Need-returns Inv-loop μ-loop
-returns c = ?
+returns c = search (needs, walks)
 
 pub skip-spec : {M : Type 1} → statement M
 skip-spec =

@@ -1,3 +1,4 @@
+use Rattle.image.proofs.Wires.{signs}
 use borrow.Author.Needs.{needs}
 use Rattle.image.proofs.signals.is_named.Statement.{statement}
 use Rattle.image.proofs.signals.is_named.Tie as tie
@@ -8,33 +9,26 @@ use Rattle.signal.proofs.Signal.is_input.Reads as is-input-reads
 use Rattle.signal.proofs.Signal.is_var.Reads as is-var-reads
 use Rattle.signal.proofs.Signal.var.Reads as var-reads
 
--- src/signals.rt:21:8
 is-input-requires : tie.Need-is-input-requires
 is-input-requires c κs = search needs
 
--- src/signals.rt:22:16
 input-requires : tie.Need-input-requires
-input-requires c κs = ?
+input-requires c κs = search (needs, signs)
 
--- src/signals.rt:22:9
 returns : tie.Need-returns
-returns c = ?
+returns c = search (needs, signs)
 
--- src/signals.rt:24:8
 is-var-requires : tie.Need-is-var-requires
 is-var-requires c κs = search needs
 
--- src/signals.rt:25:16
 var-requires : tie.Need-var-requires
-var-requires c κs = ?
+var-requires c κs = search (needs, signs)
 
--- src/signals.rt:25:9
 returns-2 : tie.Need-returns-2
-returns-2 c = ?
+returns-2 c = search (needs, signs)
 
--- src/signals.rt:18:1
 returns-3 : tie.Need-returns-3
-returns-3 c = ?
+returns-3 c = search (needs, signs)
 
 pub is-named-spec : {M : Type 1} → statement M
 is-named-spec =

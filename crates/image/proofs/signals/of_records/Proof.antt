@@ -1,3 +1,10 @@
+use mathlib.Core.Path.{_≡_}
+use Prim.Native.Nat.{_-_, _≤_}
+use native.Mathlib.Omega.{arith}
+use borrow.Author.Needs.{needs}
+use Rattle.model.specs.Image.{words, endFrom}
+use Rattle.image.specs.Reader.{gatesWiring}
+use Rattle.image.proofs.Wires.{joined, turn-step, gates-step, gates}
 use Rattle.image.proofs.signals.of_records.Statement.{statement}
 use Rattle.image.proofs.signals.of_records.Tie as tie
 use Rattle.image.proofs.signals.of_records.Reads as reads
@@ -9,62 +16,50 @@ use Rattle.kinds.proofs.kind_of.Reads as kind-of-reads
 use Rattle.words.proofs.nth.Reads as nth-reads
 
 abbrev Inv-loop : tie.InvT-loop
-Inv-loop body inputs nodes v₀ at₀ named₀ sorted₀ v at named sorted = ?
+Inv-loop body inputs nodes v₀ at₀ named₀ sorted₀ v at named sorted = (gatesWiring inputs nodes 0 nodes (words body) 0 ≡ joined named sorted (gatesWiring inputs nodes v (nodes - v) (words body) at)) × (endFrom (nodes - v) (words body) at ≡ endFrom nodes (words body) 0)
 
 abbrev μ-loop : tie.MeasureT-loop
-μ-loop body inputs nodes v₀ at₀ named₀ sorted₀ v at named sorted = ?
+μ-loop body inputs nodes v₀ at₀ named₀ sorted₀ v at named sorted = nodes - v
 
--- src/signals.rt:77:5
 loop-holds : tie.Need-loop-holds Inv-loop μ-loop
-loop-holds c = ?
+loop-holds c = search (needs, gates)
 
--- src/signals.rt:78:13
 nth-requires : tie.Need-nth-requires Inv-loop μ-loop
-nth-requires c κs = ?
+nth-requires c κs = search (needs, gates)
 
--- src/signals.rt:79:32
 add-of-words : tie.Need-add-of-words Inv-loop μ-loop
-add-of-words c = ?
+add-of-words c = search (needs, gates)
 
--- src/signals.rt:79:40
 cast-of-words : tie.Need-cast-of-words Inv-loop μ-loop
-cast-of-words c = ?
+cast-of-words c = search (needs, gates)
 
--- src/signals.rt:79:13
 of-words-requires : tie.Need-of-words-requires Inv-loop μ-loop
-of-words-requires c κs = ?
+of-words-requires c κs = search (needs, gates)
 
--- src/signals.rt:81:48
 kind-of-requires : tie.Need-kind-of-requires Inv-loop μ-loop
-kind-of-requires c κs = ?
+kind-of-requires c κs = search (needs, gates)
 
--- src/signals.rt:81:28
 is-flip-flop-requires : tie.Need-is-flip-flop-requires Inv-loop μ-loop
-is-flip-flop-requires c κs = ?
+is-flip-flop-requires c κs = search (needs, gates)
 
--- src/signals.rt:82:15
 size-of-requires : tie.Need-size-of-requires Inv-loop μ-loop
-size-of-requires c κs = ?
+size-of-requires c κs = search (needs, gates)
 
--- src/signals.rt:82:9
 add-at : tie.Need-add-at Inv-loop μ-loop
-add-at c = ?
+add-at c = search (needs, gates)
 
--- src/signals.rt:83:9
 add-v : tie.Need-add-v Inv-loop μ-loop
-add-v c = ?
+add-v c = search (needs, gates)
 
--- src/signals.rt:77:5
 loop-less : tie.Need-loop-less Inv-loop μ-loop
-loop-less c = ?
+loop-less c = search (needs, gates)
 
--- src/signals.rt:77:5
 loop-again : tie.Need-loop-again Inv-loop μ-loop
-loop-again c = ?
+loop-again c = (gates-step _ _ _ _ _ _ _ _ (c .before .before .before .before .before .before .before .before .loop .inv .0) (omega arith) _ (c .before .before .before .before .before .before .nth .ensures) _ (c .before .before .before .before .before .of-words .ensures) _ (c .before .before .before .kind-of .ensures) _ (c .before .before .is-flip-flop .ensures) _ (c .size-of .ensures),
+    turn-step _ _ _ _ _ (c .before .before .before .before .before .before .before .before .loop .inv .1) (omega arith) _ (c .before .before .before .before .before .before .nth .ensures) _ (c .size-of .ensures))
 
--- src/signals.rt:69:1
 returns : tie.Need-returns Inv-loop μ-loop
-returns c = ?
+returns c = search (needs, gates)
 
 pub of-records-spec : {M : Type 1} → statement M
 of-records-spec =
