@@ -2,3 +2,4 @@ pub mod Fits
 pub mod Layouts
 pub mod Frames
 pub mod Wires
+pub mod Bodies
