@@ -87,7 +87,7 @@ module _ (b : List ℕ) (s : Bool) (i n o : ℕ) where
       body-many l = simp (laid-yes, few-yes, lt-leb t 2048 l)
 
       module _ (l : t ≤ 2048) (g : Wiring) (eg : g ≡ gatesWiring i n 0 n (words b) 0)
-        (y : Wiring) (ey : y ≡ wiringFrom i n n o (words b) (length b / 4 - (o + 4))) where
+          (y : Wiring) (ey : y ≡ wiringFrom i n n o (words b) (length b / 4 - (o + 4))) where
         wired-is : wired (netIn i n o (words b)) ≡ (g .named && y .named)
         unfolding wired netIn gatesWiring wiringFrom
         wired-is = simp (eg, ey, length-gates, laid-end n (words b) (length b / 4 - (o + 4)) t lim-inv)

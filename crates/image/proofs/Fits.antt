@@ -63,7 +63,7 @@ module _ (ws : List ℕ) (at h : ℕ) (e : h ≡ getD ws at 0) where
   sound-plain n k = simp (← e, ne-eqb (h % 256) 14 n, k)
 
   sound-lut : (lo hi : ℕ) → h % 256 ≡ 14 → lo ≡ getD ws (at + 1 + h / 256) 0 → hi ≡ getD ws (at + 2 + h / 256) 0
-    → headerOk h ≡ true → soundAt ws at ≡ fitsTable 14 (h / 256) (lo + hi * 4294967296)
+      → headerOk h ≡ true → soundAt ws at ≡ fitsTable 14 (h / 256) (lo + hi * 4294967296)
   unfolding soundAt codeAt countAt tableAt
   sound-lut lo hi q a b k = simp (← e, q, k, ← a, ← b)
 
@@ -117,7 +117,7 @@ module _ (ws : List ℕ) (at lim h : ℕ) (e : h ≡ getD ws at 0) (t : Bool) (q
       lut-count = lut-count-is h good w
 
       module _ (l : h / 256 + 2 < lim - at) (lo hi : ℕ) (x : lo ≡ getD ws (at + 1 + h / 256) 0) (y : hi ≡ getD ws (at + 2 + h / 256) 0)
-        (u : Bool) (z : u ≡ fitsTable 14 (h / 256) (lo + hi * 4294967296)) where
+          (u : Bool) (z : u ≡ fitsTable 14 (h / 256) (lo + hi * 4294967296)) where
         pub fit-lut : u ≡ true → h / 256 + 3 ≡ fitAt ws at lim
         fit-lut b =
             sym (size-lut ws at h e w)

@@ -46,7 +46,7 @@ module _ (img : List ℕ) (d : ℕ) (e : d ≡ spanIn img) where
     frame-outs l = simp (f, ← eo, lt-leb o 64 l, and-false)
 
     pub frame-yes : i ≤ 1024 → n ≤ 512 → o ≤ 64
-      → Sound (record { start = length img - d; inputs = i; nodes = n; outs = o }) ≡ framedOf img
+        → Sound (record { start = length img - d; inputs = i; nodes = n; outs = o }) ≡ framedOf img
     unfolding framedOf within frameOf
     frame-yes a b l = simp (f, ← e, ← ei, ← en, ← eo, le-leb i 1024 a, le-leb n 512 b, le-leb o 64 l)
 

@@ -61,19 +61,20 @@ laid-broken zero ws at t lim p e = absurd (omega arith)
 laid-broken (suc k) ws at t lim p e =
     ⊎-elim
     (λ (a : soundAt ws at ≡ false). simp a)
-    (λ (b : leb (at + sizeAt ws at) lim ≡ false). simp
-      (ne-eqb (endFrom k ws (at + sizeAt ws at)) lim
-        (λ q. omega (arith, leb-false (at + sizeAt ws at) lim b, end-le k ws (at + sizeAt ws at))),
-      and-false))
+    (λ (b : leb (at + sizeAt ws at) lim ≡ false). simp (
+      ne-eqb (endFrom k ws (at + sizeAt ws at)) lim
+          (λ q. omega (arith, leb-false (at + sizeAt ws at) lim b, end-le k ws (at + sizeAt ws at))),
+      and-false,
+    ))
     (and-split (soundAt ws at) (leb (at + sizeAt ws at) lim)
-      (cond-zero (soundAt ws at && leb (at + sizeAt ws at) lim) (sizeAt ws at) (size-pos ws at) e))
+    (cond-zero (soundAt ws at && leb (at + sizeAt ws at) lim) (sizeAt ws at) (size-pos ws at) e))
 
 pub fit-count : (ws : List ℕ) (at lim s h : ℕ) → Fit ws at lim s → h ≡ getD ws at 0 → h / 256 < s
 fit-count ws at lim s h g r = let z = g .size in omega (arith, count-is ws at h r, count-lt-size ws at)
 
 -- one record is passed
 pub laid-step : (k : ℕ) (ws : List ℕ) (at t lim s h : ℕ) → 0 < k → s ≡ fitAt ws at lim → 0 < s → h ≡ getD ws at 0 → lim ≤ length ws
-  → laidFrom k ws at t lim ≡ laidFrom (k - 1) ws (at + s) (t + h / 256) lim
+    → laidFrom k ws at t lim ≡ laidFrom (k - 1) ws (at + s) (t + h / 256) lim
 unfolding laidFrom soundFrom endFrom gatesFrom fanin
 laid-step zero ws at t lim s h p e q r l = absurd (omega arith)
 laid-step (suc k) ws at t lim s h p e q r l =
@@ -95,7 +96,7 @@ module _ (b : List ℕ) (x : Laid) (k at t lim : ℕ) (i : x ≡ laidFrom k (wor
   broken-laid s e z p = laid-broken k (words b) at t lim p (sym z ∙ e) ∙ sym i
 
   pub step-laid : (s h : ℕ) → s ≡ fitAt (words b) at lim → s ≢ 0 → h ≡ getD (words b) at 0 → 0 < k → lim ≤ length b / 4
-    → x ≡ laidFrom (k - 1) (words b) (at + s) (t + h / 256) lim
+      → x ≡ laidFrom (k - 1) (words b) (at + s) (t + h / 256) lim
   step-laid s h e z r p l = i ∙ laid-step k (words b) at t lim s h p e (omega arith) r (omega (arith, length-words b))
 
 module _ (b : List ℕ) (at lim s : ℕ) (e : s ≡ fitAt (words b) at lim) (z : s ≢ 0) where

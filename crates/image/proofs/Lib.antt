@@ -3,3 +3,5 @@ pub mod Layouts
 pub mod Frames
 pub mod Wires
 pub mod Bodies
+pub mod Checks
+pub mod Places

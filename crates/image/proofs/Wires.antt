@@ -100,7 +100,7 @@ join-join a d a′ d′ w = wiring-eq (sym (and-assoc a a′ (w .named))) (sym (
 
 -- a part, taken apart at its first element
 part-cons : (k : ℕ) (ws : List ℕ) (at s : ℕ) → 0 < k → at < length ws → s ≡ getD ws at 0
-  → take k (drop at ws) ≡ s ∷ take (k - 1) (drop (at + 1) ws)
+    → take k (drop at ws) ≡ s ∷ take (k - 1) (drop (at + 1) ws)
 part-cons zero ws at s p l e = absurd (omega arith)
 part-cons (suc k) ws at s p l e = rw (drop-cons ws at 0, ← e, sub-one, add-one)
 
@@ -113,15 +113,15 @@ module _ (l : List ℕ) (i n c : ℕ) (x : Wiring) (a d : Bool) (k at : ℕ) (in
       sym (inv ∙ ap (λ (j : ℕ). joined a d (wiringFrom i n c j (words l) at)) e ∙ wiring-eq (and-true a) (and-true d))
 
   pub words-step : 0 < k → (from count : ℕ) → at + k ≡ from + count → from + count ≤ length l / 4
-    → (s : ℕ) → s ≡ getD (words l) at 0 → (t : Bool) → t ≡ named i n s → (u : Bool) → u ≡ belowRef c (ref s)
-    → x ≡ joined (a && t) (d && u) (wiringFrom i n c (k - 1) (words l) (at + 1))
+      → (s : ℕ) → s ≡ getD (words l) at 0 → (t : Bool) → t ≡ named i n s → (u : Bool) → u ≡ belowRef c (ref s)
+      → x ≡ joined (a && t) (d && u) (wiringFrom i n c (k - 1) (words l) (at + 1))
   unfolding joined wiringFrom allNamed allBelow
   words-step p from count q m s e t f u g =
       let w : at < length (words l) = omega (arith, length-words l) in
       let r = take (k - 1) (drop (at + 1) (words l)) in
       inv ∙ wiring-eq
-        (simp (part-cons k (words l) at s p w e, ← f) (sym (and-assoc a t (allNamed i n r))))
-        (simp (part-cons k (words l) at s p w e, ← g) (sym (and-assoc d u (allBelow c r))))
+      (simp (part-cons k (words l) at s p w e, ← f) (sym (and-assoc a t (allNamed i n r))))
+      (simp (part-cons k (words l) at s p w e, ← g) (sym (and-assoc d u (allBelow c r))))
 
 pub ruleset lists = (join-start, words-done, words-step)
 
@@ -156,8 +156,8 @@ gates-start b i n = join-start (gatesWiring i n 0 n (words b) 0) ∙ ap (λ (k :
 
 -- one record: its inputs, and whether it is a flip-flop
 gates-one : (ws : List ℕ) (i n v j at h s : ℕ) → h ≡ getD ws at 0 → s ≡ sizeOf h → (w : Wiring) → w ≡ wiringFrom i n v (h / 256) ws (at + 1)
-  → (f : Bool) → f ≡ isFlipFlop (kindOf (h % 256))
-  → gatesWiring i n v (suc j) ws at ≡ joined (w .named) (f || w .sorted) (gatesWiring i n (suc v) j ws (at + s))
+    → (f : Bool) → f ≡ isFlipFlop (kindOf (h % 256))
+    → gatesWiring i n v (suc j) ws at ≡ joined (w .named) (f || w .sorted) (gatesWiring i n (suc v) j ws (at + s))
 unfolding gatesWiring gatesFrom gatesNamed sortedFrom recordGate codeAt joined wiringFrom
 gates-one ws i n v j at h s e z w q f g =
     let c : countAt ws at ≡ h / 256 = count-is ws at h e in
@@ -175,8 +175,8 @@ module _ (b : List ℕ) (i n v : ℕ) (x : Wiring) (a d : Bool) (at : ℕ) (inv 
       sym (inv ∙ ap (λ (j : ℕ). joined a d (gatesWiring i n v j (words b) at)) e ∙ wiring-eq (and-true a) (and-true d))
 
   pub gates-step : v < n → (h : ℕ) → h ≡ getD (words b) at 0 → (w : Wiring) → w ≡ wiringFrom i n v (h / 256) (words b) (at + 1)
-    → (k : Kind) → k ≡ kindOf (h % 256) → (f : Bool) → f ≡ isFlipFlop k → (s : ℕ) → s ≡ sizeOf h
-    → x ≡ joined (a && w .named) (d && (f || w .sorted)) (gatesWiring i n (v + 1) (n - (v + 1)) (words b) (at + s))
+      → (k : Kind) → k ≡ kindOf (h % 256) → (f : Bool) → f ≡ isFlipFlop k → (s : ℕ) → s ≡ sizeOf h
+      → x ≡ joined (a && w .named) (d && (f || w .sorted)) (gatesWiring i n (v + 1) (n - (v + 1)) (words b) (at + s))
   gates-step p h e w q k y f g s z =
       let r : n - v ≡ suc (n - (v + 1)) = omega arith in
       let o : v + 1 ≡ suc v = omega arith in

@@ -62,6 +62,9 @@ module _ (img : List ℕ) (e : refusalOf img ≡ 0) (k : ℕ) (l : k < nodesIn i
       (length-take-le m (drop (recordAtOf img k) img)
       (rw length-drop (omega (arith, record-at, record-ends, length-wordsOf img f, f .inside))))
 
+  ends-inside : recordAtOf img k + length (recordOf img k) ≤ length img
+  ends-inside = let f = accepted img e .frame in omega (arith, record-at, record-length, record-ends, length-wordsOf img f, f .inside)
+
   -- node k's record, as a writer writes it
   pub record-of-gate : Bytes img → recordOf img k ≡ bytes (gateWords (gateAt (netOf img) k))
   unfolding recordOf recordIn wordsOf netOf netIn
@@ -75,3 +78,13 @@ module _ (img : List ℕ) (e : refusalOf img ≡ 0) (k : ℕ) (l : k < nodesIn i
       let r = record-ends in
       let g : gateWords (recordGate ws at) ≡ take s (drop at ws) = gate-forth ws at (words-small b (bytes-body img by)) (omega arith) in
       simp (has-record, gates-at k (nodesIn img) ws 0 noGate l, g, bytes-take, bytes-after, w)
+
+-- of every image, the part lies inside
+pub record-inside : (img : List ℕ) (k : ℕ) → recordAtOf img k + length (recordOf img k) ≤ length img
+unfolding recordAtOf recordOf hasRecord
+record-inside img k =
+    by-bool (hasRecord img k)
+    (λ h. ends-inside img
+    (eqb-true (refusalOf img) 0 (and-left (eqb (refusalOf img) 0) (ltb k (nodesIn img)) h)) k
+    (ltb-true k (nodesIn img) (and-right (eqb (refusalOf img) 0) (ltb k (nodesIn img)) h)))
+    (λ h. simp h (omega arith))

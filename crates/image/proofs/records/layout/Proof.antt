@@ -20,15 +20,65 @@ layout-spec =
     (tie.spec
     Inv-loop
     μ-loop
-    (λ c. search (needs, layouts))
-    (λ c κs. search (needs, layouts))
-    (λ c. search (needs, layouts))
-    (λ c κs. search (needs, layouts))
-    (λ c. search (needs, layouts))
-    (λ c. search (needs, layouts))
-    (λ c. search (needs, layouts))
-    (λ c. search (needs, layouts))
-    (λ c. search (needs, layouts))
-    (λ c. search (needs, layouts))
-    (λ c. search (needs, layouts))
-    (λ c. search (needs, layouts)))
+    (λ
+    c.
+    search
+    (needs,
+    layouts))
+    (λ
+    c
+    κs.
+    search
+    (needs,
+    layouts))
+    (λ
+    c.
+    search
+    (needs,
+    layouts))
+    (λ
+    c
+    κs.
+    search
+    (needs,
+    layouts))
+    (λ
+    c.
+    search
+    (needs,
+    layouts))
+    (λ
+    c.
+    search
+    (needs,
+    layouts))
+    (λ
+    c.
+    search
+    (needs,
+    layouts))
+    (λ
+    c.
+    search
+    (needs,
+    layouts))
+    (λ
+    c.
+    search
+    (needs,
+    layouts))
+    (λ
+    c.
+    search
+    (needs,
+    layouts))
+    (λ
+    c.
+    search
+    (needs,
+    layouts))
+    (λ
+    c.
+    search
+    (needs,
+    layouts)
