@@ -7,118 +7,25 @@ pub fit-at-spec : {M : Type 1} → statement M
 fit-at-spec =
     tie.close
     (tie.spec
-    (λ
-    c.
-    search
-    (needs,
-    fits))
-    (λ
-    c
-    κs.
-    search
-    (needs,
-    fits))
-    (λ
-    c
-    κs.
-    search
-    (needs,
-    fits))
-    (λ
-    c.
-    search
-    (needs,
-    fits))
-    (λ
-    c.
-    search
-    (needs,
-    fits))
-    (λ
-    c.
-    search
-    (needs,
-    fits))
-    (λ
-    c.
-    search
-    (needs,
-    fits))
-    (λ
-    c.
-    search
-    (needs,
-    fits))
-    (λ
-    c.
-    search
-    (needs,
-    fits))
-    (λ
-    c.
-    search
-    (needs,
-    fits))
-    (λ
-    c.
-    search
-    (needs,
-    fits))
-    (λ
-    c.
-    search
-    (needs,
-    fits))
-    (λ
-    c.
-    search
-    (needs,
-    fits))
-    (λ
-    c.
-    search
-    (needs,
-    fits))
-    (λ
-    c
-    κs.
-    search
-    (needs,
-    fits))
-    (λ
-    c.
-    search
-    (needs,
-    fits))
-    (λ
-    c.
-    search
-    (needs,
-    fits))
-    (λ
-    c
-    κs.
-    search
-    (needs,
-    fits))
-    (λ
-    c
-    κs.
-    search
-    (needs,
-    fits))
-    (λ
-    c.
-    search
-    (needs,
-    fits))
-    (λ
-    c.
-    search
-    (needs,
-    fits))
-    (λ
-    c.
-    search
-    (needs,
-    fits)
+    (λ c. search (needs, fits))
+    (λ c κs. search (needs, fits))
+    (λ c κs. search (needs, fits))
+    (λ c. search (needs, fits))
+    (λ c. search (needs, fits))
+    (λ c. search (needs, fits))
+    (λ c. search (needs, fits))
+    (λ c. search (needs, fits))
+    (λ c. search (needs, fits))
+    (λ c. search (needs, fits))
+    (λ c. search (needs, fits))
+    (λ c. search (needs, fits))
+    (λ c. search (needs, fits))
+    (λ c. search (needs, fits))
+    (λ c κs. search (needs, fits))
+    (λ c. search (needs, fits))
+    (λ c. search (needs, fits))
+    (λ c κs. search (needs, fits))
+    (λ c κs. search (needs, fits))
+    (λ c. search (needs, fits))
+    (λ c. search (needs, fits))
+    (λ c. search (needs, fits)))

@@ -11,14 +11,6 @@ pub fits-code-spec : {M : Type 1} → statement M
 fits-code-spec =
     tie.close
     (tie.spec
-    (λ
-    c
-    κs.
-    search
-    needs)
-    (λ
-    c
-    κs.
-    search
-    needs)
+    (λ c κs. search needs)
+    (λ c κs. search needs)
     returns)

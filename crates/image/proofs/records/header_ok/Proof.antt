@@ -11,9 +11,5 @@ pub header-ok-spec : {M : Type 1} → statement M
 header-ok-spec =
     tie.close
     (tie.spec
-    (λ
-    c
-    κs.
-    search
-    needs)
+    (λ c κs. search needs)
     returns)

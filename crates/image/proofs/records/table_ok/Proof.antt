@@ -30,12 +30,4 @@ returns-8 c = table-five _ _ _ (omega arith) (omega arith) (omega arith)
 pub table-ok-spec : {M : Type 1} → statement M
 table-ok-spec =
     tie.close
-    (tie.spec
-    returns
-    returns-2
-    returns-3
-    returns-4
-    returns-5
-    returns-6
-    returns-7
-    returns-8)
+    (tie.spec returns returns-2 returns-3 returns-4 returns-5 returns-6 returns-7 returns-8)
