@@ -40,49 +40,49 @@ long k l n p = length-take-le n l (p .listed .count)
 
 module _ (k : Kind) (l : List ℕ) (n : ℕ) (p : Shaped k l n) where
   pub tests-and2 : (a : Bool) → k ≡ And2 → a ≡ proper (take n l) → a ≡ tests k l n
-  unfolding isCanonical canonicalK kindOf fitsKind
+  unfolding isCanonical canonicalK kindOf
   tests-and2 a e f =
       f ∙ rw e
 
   pub tests-and3 : (a : Bool) → k ≡ And3 → a ≡ proper (take n l) → a ≡ tests k l n
-  unfolding isCanonical canonicalK kindOf fitsKind
+  unfolding isCanonical canonicalK kindOf
   tests-and3 a e f =
       f ∙ rw e
 
   pub tests-xor2 : (a b : Bool) → k ≡ Xor2 → a ≡ proper (take n l) → b ≡ noInv (take n l) → (a && b) ≡ tests k l n
-  unfolding isCanonical canonicalK kindOf fitsKind
+  unfolding isCanonical canonicalK kindOf
   tests-xor2 a b e f g =
       rw (e, f, g)
 
   pub tests-xor3 : (a b : Bool) → k ≡ Xor3 → a ≡ proper (take n l) → b ≡ noInv (take n l) → (a && b) ≡ tests k l n
-  unfolding isCanonical canonicalK kindOf fitsKind
+  unfolding isCanonical canonicalK kindOf
   tests-xor3 a b e f g =
       rw (e, f, g)
 
   pub tests-andn : (a : Bool) → k ≡ AndN → a ≡ proper (take n l) → (a && ltb 3 n) ≡ tests k l n
-  unfolding isCanonical canonicalK kindOf fitsKind
+  unfolding isCanonical canonicalK kindOf
   tests-andn a e f =
       rw (e, f, long k l n p)
 
   pub tests-xorn : (a b : Bool) → k ≡ XorN → a ≡ proper (take n l) → b ≡ noInv (take n l) → (a && ltb 3 n && b) ≡ tests k l n
-  unfolding isCanonical canonicalK kindOf fitsKind
+  unfolding isCanonical canonicalK kindOf
   tests-xorn a b e f g =
       rw (e, f, g, long k l n p)
 
   pub tests-maj : (a b : Bool) → k ≡ Maj → a ≡ proper (take n l) → b ≡ isInverted (getD l 0 0) → (a && not b) ≡ tests k l n
-  unfolding isCanonical canonicalK kindOf fitsKind
+  unfolding isCanonical canonicalK kindOf
   tests-maj a b e f g =
       let c : n ≡ 3 = eqb-true n 3 (is k Maj l n e p .fits) in
       rw (e, f, g, c, first3 l (p .listed .room))
 
   pub tests-mux : (a : Bool) → k ≡ Mux → a ≡ muxCanonical (getD l 0 0) (getD l 1 0) (getD l 2 0) → a ≡ tests k l n
-  unfolding isCanonical canonicalK kindOf fitsKind
+  unfolding isCanonical canonicalK kindOf
   tests-mux a e f =
       let c : n ≡ 3 = eqb-true n 3 (is k Mux l n e p .fits) in
       f ∙ rw (e, c, first3 l (p .listed .room))
 
   pub tests-dff : (a : Bool) → k ≡ Dff → a ≡ dffCanonical (getD l 0 0) (getD l 1 0) (getD l 2 0) → a ≡ tests k l n
-  unfolding isCanonical canonicalK kindOf fitsKind
+  unfolding isCanonical canonicalK kindOf
   tests-dff a e f =
       let c : n ≡ 3 = eqb-true n 3 (is k Dff l n e p .fits) in
       f ∙ rw (e, c, first3 l (p .listed .room))

@@ -24,43 +24,43 @@ is k j l n e p = rw e at p
 
 module _ (k : Kind) (l : List ℕ) (n : ℕ) (p : Shaped k l n) (r : Norm) where
   pub whole-and : k ≡ And2 → r ≡ makeAnd (getD l 0 0) (getD l 1 0) false → r ≡ whole k l n
-  unfolding makeCanonical normalK kindOf fitsKind
+  unfolding makeCanonical normalK kindOf
   whole-and e q =
       let c : n ≡ 2 = eqb-true n 2 (is k And2 l n e p .fits) in
       q ∙ rw (e, c, first2 l (p .listed .room))
 
   pub whole-xor : k ≡ Xor2 → r ≡ makeXor (getD l 0 0) (getD l 1 0) false → r ≡ whole k l n
-  unfolding makeCanonical normalK kindOf fitsKind
+  unfolding makeCanonical normalK kindOf
   whole-xor e q =
       let c : n ≡ 2 = eqb-true n 2 (is k Xor2 l n e p .fits) in
       q ∙ rw (e, c, first2 l (p .listed .room))
 
   pub whole-and3 : k ≡ And3 → r ≡ makeAnd3 (getD l 0 0) (getD l 1 0) (getD l 2 0) false → r ≡ whole k l n
-  unfolding makeCanonical normalK kindOf fitsKind
+  unfolding makeCanonical normalK kindOf
   whole-and3 e q =
       let c : n ≡ 3 = eqb-true n 3 (is k And3 l n e p .fits) in
       q ∙ rw (e, c, first3 l (p .listed .room))
 
   pub whole-xor3 : k ≡ Xor3 → r ≡ makeXor3 (getD l 0 0) (getD l 1 0) (getD l 2 0) false → r ≡ whole k l n
-  unfolding makeCanonical normalK kindOf fitsKind
+  unfolding makeCanonical normalK kindOf
   whole-xor3 e q =
       let c : n ≡ 3 = eqb-true n 3 (is k Xor3 l n e p .fits) in
       q ∙ rw (e, c, first3 l (p .listed .room))
 
   pub whole-maj : k ≡ Maj → r ≡ makeMaj (getD l 0 0) (getD l 1 0) (getD l 2 0) false → r ≡ whole k l n
-  unfolding makeCanonical normalK kindOf fitsKind
+  unfolding makeCanonical normalK kindOf
   whole-maj e q =
       let c : n ≡ 3 = eqb-true n 3 (is k Maj l n e p .fits) in
       q ∙ rw (e, c, first3 l (p .listed .room))
 
   pub whole-mux : k ≡ Mux → r ≡ makeMux (getD l 0 0) (getD l 1 0) (getD l 2 0) false → r ≡ whole k l n
-  unfolding makeCanonical normalK kindOf fitsKind
+  unfolding makeCanonical normalK kindOf
   whole-mux e q =
       let c : n ≡ 3 = eqb-true n 3 (is k Mux l n e p .fits) in
       q ∙ rw (e, c, first3 l (p .listed .room))
 
   pub whole-dff : k ≡ Dff → r ≡ makeDff (getD l 0 0) (getD l 1 0) (getD l 2 0) false → r ≡ whole k l n
-  unfolding makeCanonical normalK kindOf fitsKind
+  unfolding makeCanonical normalK kindOf
   whole-dff e q =
       let c : n ≡ 3 = eqb-true n 3 (is k Dff l n e p .fits) in
       q ∙ rw (e, c, first3 l (p .listed .room))
@@ -90,7 +90,7 @@ module _ (k : Kind) (l : List ℕ) (n : ℕ) (p : Shaped k l n) (r : Norm) where
   whole-xnorn e q = q ∙ rw e
 
 pub whole-buf : (k : Kind) (l : List ℕ) (n : ℕ) → Shaped k l n → (s : Signal) (m : List ℕ) → k ≡ Buf → s .a ≡ getD l 0 0 → normalOf (Copy s) m ≡ whole k l n
-unfolding makeCanonical normalK kindOf fitsKind normalOf
+unfolding makeCanonical normalK kindOf normalOf
 whole-buf k l n p s m e q =
     let c : n ≡ 1 = eqb-true n 1 (is k Buf l n e p .fits) in
     ap copied q ∙ rw (e, c, first1 l (p .listed .room))

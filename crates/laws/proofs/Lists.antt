@@ -7,7 +7,7 @@ use native.Mathlib.Omega.{arith}
 use native.Mathlib.Decide.{ℕ-discrete}
 use mathlib.Core.Bool.{Bool, true, false, _||_}
 use mathlib.Core.List.{List, [], _∷_, _++_, map}
-use lib.ListN.{length, getD}
+use lib.ListN.{length, getD, take}
 use lib.Dec.{eqb}
 use borrow.Author.Tests.{eqb-true}
 use Rattle.laws.proofs.Bools.{or-left, or-right}
@@ -91,3 +91,9 @@ module _ {ℓ} {A : Type 0} (P : List A → Type ℓ) where
   by-three (a ∷ []) e f = absurd (let k = eqb-true (length (a ∷ [])) 3 e in omega arith)
   by-three (a ∷ b ∷ []) e f = absurd (let k = eqb-true (length (a ∷ b ∷ [])) 3 e in omega arith)
   by-three (a ∷ b ∷ c ∷ d ∷ l) e f = absurd (let k = eqb-true (length (a ∷ b ∷ c ∷ d ∷ l)) 3 e in omega arith)
+
+-- a front is as long as it is
+pub take-length-take : (n : ℕ) (l : List ℕ) → take (length (take n l)) l ≡ take n l
+take-length-take zero l = refl
+take-length-take (suc n) [] = refl
+take-length-take (suc n) (x ∷ l) = ap (λ (r : List ℕ). x ∷ r) (take-length-take n l)

@@ -244,7 +244,7 @@ bare : (k : Kind) (l : List ℕ) (t : ℕ) → t ≡ 0 → made (gateOf k l) fal
 bare k l t e = ap (λ t. made (gateWith k l t) false) (sym e)
 
 kind-stays : (k : Kind) (l : List ℕ) (t : ℕ) → fitsKind k (length l) ≡ true → fitsTable (codeOf k) (length l) t ≡ true → Stays (gateWith k l t)
-unfolding isCanonical canonicalK makeCanonical normalK kindOf fitsKind fitsTable
+unfolding isCanonical canonicalK makeCanonical normalK kindOf fitsTable
 kind-stays And2 l t f h = by-two (λ l. Stays (gateWith And2 l t)) l f (λ x y c. and-stays x y (rise2 x y c) ∙ bare And2 _ t (eqb-true t 0 h))
 kind-stays Xor2 l t f h = by-two (λ l. Stays (gateWith Xor2 l t)) l f (λ x y c. let q = plain-all (x ∷ y ∷ []) (and-right (proper (x ∷ y ∷ [])) _ c) in
     xor-stays x y (rise2 x y (and-left _ (noInv (x ∷ y ∷ [])) c)) (q .0) (q .1 .0) ∙ bare Xor2 _ t (eqb-true t 0 h))

@@ -72,7 +72,7 @@ two-up x p q = omega arith
 -- ---- two inputs
 
 and-sorted : (z : Bool) (x y : ℕ) → x ≤ y → Canon (andSorted x y z)
-unfolding andSorted made2 isCanonical canonicalK kindOf shaped fitsCode fitsKind fitsTable
+unfolding andSorted made2 isCanonical canonicalK kindOf shaped fitsCode fitsTable
 and-sorted z x y l =
     by-or2 Canon x 0 x (neg y) (λ e. copy-canon _) (λ e. copy-canon _) (λ p q.
     by-or2 Canon x 1 x y (λ e. copy-canon _) (λ e. copy-canon _) (λ r s.
@@ -86,7 +86,7 @@ abbrev Plain2 : ℕ → ℕ → Type 0
 Plain2 x y = (isInverted x ≡ false) × (isInverted y ≡ false)
 
 xor-sorted : (z : Bool) (x y : ℕ) → x ≤ y → isInverted x ≡ false → isInverted y ≡ false → Canon (xorSorted x y z)
-unfolding xorSorted made2 isCanonical canonicalK kindOf shaped fitsCode fitsKind fitsTable
+unfolding xorSorted made2 isCanonical canonicalK kindOf shaped fitsCode fitsTable
 xor-sorted z x y l a b =
     by-eq Canon x 0 (λ e. copy-canon _) (λ p.
     by-eq Canon x y (λ e. copy-canon _) (λ q.
@@ -101,7 +101,7 @@ xor-canon a b z =
 -- ---- three inputs
 
 and3-sorted : (z : Bool) (x y w : ℕ) → x ≤ y → y ≤ w → Canon (and3Sorted x y w z)
-unfolding and3Sorted made3 isCanonical canonicalK kindOf shaped fitsCode fitsKind fitsTable
+unfolding and3Sorted made3 isCanonical canonicalK kindOf shaped fitsCode fitsTable
 and3-sorted z x y w l m =
     by-or3 Canon x 0 x (neg y) w (neg y) (λ e. copy-canon _) (λ e. copy-canon _) (λ e. copy-canon _) (λ p q r.
     by-or2 Canon x 1 x y (λ e. and-canon y w z) (λ e. and-canon y w z) (λ s t.
@@ -119,7 +119,7 @@ abbrev Plain3 : ℕ → ℕ → ℕ → Type 0
 Plain3 x y w = (isInverted x ≡ false) × (isInverted y ≡ false) × (isInverted w ≡ false)
 
 xor3-sorted : (z : Bool) (x y w : ℕ) → x ≤ y → y ≤ w → Plain3 x y w → Canon (xor3Sorted x y w z)
-unfolding xor3Sorted made3 isCanonical canonicalK kindOf shaped fitsCode fitsKind fitsTable
+unfolding xor3Sorted made3 isCanonical canonicalK kindOf shaped fitsCode fitsTable
 xor3-sorted z x y w l m k =
     by-eq Canon x 0 (λ e. xor-canon y w z) (λ p.
     by-eq Canon x y (λ e. copy-canon _) (λ q.
@@ -138,7 +138,7 @@ apart : (x y : ℕ) → x ≢ y → x ≢ neg y → eqb (x / 2) (y / 2) ≡ fals
 apart x y d e = ne-eqb (x / 2) (y / 2) (λ h. e (same-ind x y h d))
 
 mux-plain : (s a b : ℕ) (z : Bool) → isInverted s ≡ false → isInverted b ≡ false → Canon (muxPlain s a b z)
-unfolding muxPlain made3 isCanonical canonicalK muxCanonical kindOf shaped fitsCode fitsKind fitsTable
+unfolding muxPlain made3 isCanonical canonicalK muxCanonical kindOf shaped fitsCode fitsTable
 mux-plain s a b z is ib =
     by-or2 Canon s 0 a b (λ e. copy-canon _) (λ e. copy-canon _) (λ p1 p2.
     by-or2 Canon s a a 1 (λ e. and-canon _ _ _) (λ e. and-canon _ _ _) (λ p3 p4.
@@ -157,7 +157,7 @@ unfolding makeMux
 mux-canon s a b z = by-test Canon (isInverted s) (λ e. mux-select (neg s) b a z (neg-plain s e)) (λ e. mux-select s a b z e)
 
 maj-plain : (x y w : ℕ) (z : Bool) → isInverted x ≡ false → x / 2 < y / 2 → y / 2 < w / 2 → Canon (majPlain x y w z)
-unfolding majPlain made3 isCanonical canonicalK kindOf shaped fitsCode fitsKind fitsTable
+unfolding majPlain made3 isCanonical canonicalK kindOf shaped fitsCode fitsTable
 maj-plain x y w z e l m =
     by-eq Canon x 0 (λ q. and-canon y w z) (λ q. record { is = rw (proper3 x y w (even-two x e q) l m, e); fits = refl })
 
@@ -178,7 +178,7 @@ unfolding makeMaj
 maj-canon a b c z = maj-sorted z (low3 a b c) (mid3 a b c) (high3 a b c) (low-mid a b c) (mid-high a b c)
 
 pub dff-canon : (d en res : ℕ) (z : Bool) → Canon (makeDff d en res z)
-unfolding makeDff made3 isCanonical canonicalK dffCanonical kindOf shaped fitsCode fitsKind fitsTable
+unfolding makeDff made3 isCanonical canonicalK dffCanonical kindOf shaped fitsCode fitsTable
 dff-canon d en res z =
     by-or3 Canon d 0 en 0 res 1 (λ e. copy-canon _) (λ e. copy-canon _) (λ e. copy-canon _)
     (λ p q r. record { is = rw (ne-eqb en 0 q, ne-eqb d 0 p, ne-eqb res 1 r); fits = refl })
@@ -211,7 +211,7 @@ long4 : (x y w u : ℕ) (l : List ℕ) → ltb 3 (length (x ∷ y ∷ w ∷ u �
 long4 x y w u l = lt-ltb 3 (length (x ∷ y ∷ w ∷ u ∷ l)) (omega arith)
 
 and-some : (x : ℕ) (l : List ℕ) (z : Bool) → 2 ≤ x → sortedN (x ∷ l) ≡ true → Canon (andSome x l z)
-unfolding andSome isCanonical canonicalK proper kindOf shaped fitsCode fitsKind fitsTable
+unfolding andSome isCanonical canonicalK proper kindOf shaped fitsCode fitsTable
 and-some x [] z a h = copy-canon _
 and-some x (y ∷ []) z a h = and-canon x y z
 and-some x (y ∷ w ∷ []) z a h = and3-canon x y w z
@@ -234,7 +234,7 @@ plain-all [] = tt
 plain-all (x ∷ l) = (plain-inv x, plain-all l)
 
 xor-some : (l : List ℕ) (z : Bool) → All (λ s. s ≢ 0) l → All (λ s. isInverted s ≡ false) l → Up l → Canon (xorSome l z)
-unfolding xorSome isCanonical canonicalK proper kindOf shaped fitsCode fitsKind fitsTable
+unfolding xorSome isCanonical canonicalK proper kindOf shaped fitsCode fitsTable
 xor-some [] z a p h = copy-canon _
 xor-some (x ∷ []) z a p h = copy-canon _
 xor-some (x ∷ y ∷ []) z a p h = xor-canon x y z
@@ -257,7 +257,7 @@ xorN-canon l z =
 -- what every normalization's being canonical and of right shape gives; a Lut stays as it is
 normalK-canon : {P : Norm → Type 0} → ((nm : Norm) → Canon nm → P nm) → (k : Kind) (l : List ℕ) (same : Norm) → fitsKind k (length l) ≡ true
     → (k ≡ Lut → P same) → P (normalK k l same)
-unfolding normalK fitsKind
+unfolding normalK
 normalK-canon f And2 l s e h = f _ (by-two (λ l. Canon (normalK And2 l s)) l e (λ a b. and-canon a b false))
 normalK-canon f Xor2 l s e h = f _ (by-two (λ l. Canon (normalK Xor2 l s)) l e (λ a b. xor-canon a b false))
 normalK-canon f And3 l s e h = f _ (by-three (λ l. Canon (normalK And3 l s)) l e (λ a b c. and3-canon a b c false))

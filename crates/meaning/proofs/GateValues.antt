@@ -116,7 +116,7 @@ dff-shaped l t e z = by-three (λ l. Cell (gateWith Dff l t)) l e (λ d en res f
 
 -- THE FLIP-FLOP: its normal form is itself, or zero, and then its state never leaves zero
 pub flip-flop-of-canonical : (g : Gate) → shaped g ≡ true → Cell g
-unfolding fitsKind fitsTable kindOf
+unfolding fitsTable kindOf
 flip-flop-of-canonical g e = by-shape Cell g e go
   where
     go : (k : Kind) (l : List ℕ) (t : ℕ) → fitsKind k (length l) ≡ true → fitsTable (codeOf k) (length l) t ≡ true → Cell (gateWith k l t)

@@ -1,11 +1,11 @@
 -- Laws of words and bytes. Whoever uses words cites these and not the definitions.
-use mathlib.Core.Path.{_≡_, refl, ap, ap₂, _∙_}
+use mathlib.Core.Path.{_≡_, refl, sym, ap, ap₂, _∙_}
 use mathlib.Core.List.{List, [], _∷_, _++_}
 use Prim.Native.Nat.{ℕ, zero, suc, _+_, _*_, _/_, _%_, _<_}
 use native.Mathlib.Omega.{arith}
 use native.Mathlib.Nat.{suc-add, add-assoc}
-use lib.ListN.{length, drop, getD}
-use lib.Seq.{getD-drop, getD-append-add}
+use lib.ListN.{length, take, drop, getD}
+use lib.Seq.{getD-drop, getD-append-add, take-nil, drop-nil}
 use Rattle.model.specs.Image.{Bytes, Words32, le4, wordAt, leWord, words, bytes}
 
 pub le4-leWord : (w : ℕ) → le4 (w % 256) (w / 256 % 256) (w / 65536 % 256) (w / 16777216) ≡ w
@@ -91,3 +91,39 @@ words-small (a ∷ b ∷ c ∷ d ∷ r) h (suc i) = words-small r (λ j. h (suc 
 -- the bytes of a part
 pub bytes-drop : (n : ℕ) (b : List ℕ) → Bytes b → Bytes (drop n b)
 bytes-drop n b h i = rw getD-drop (h (n + i))
+
+-- ---- lists of words
+
+pub bytes-take : (k : ℕ) (ws : List ℕ) → bytes (take k ws) ≡ take (4 * k) (bytes ws)
+unfolding bytes
+bytes-take zero ws = refl
+bytes-take (suc k) [] = sym (take-nil (4 * suc k))
+bytes-take (suc k) (w ∷ ws) = let e = bytes-take k ws in simp four-suc (ap (λ (r : List ℕ). leWord w ++ r) e)
+
+pub bytes-after : (k : ℕ) (ws : List ℕ) → bytes (drop k ws) ≡ drop (4 * k) (bytes ws)
+unfolding bytes
+bytes-after zero ws = refl
+bytes-after (suc k) [] = sym (drop-nil (4 * suc k))
+bytes-after (suc k) (w ∷ ws) = simp four-suc (bytes-after k ws)
+
+pub words-append : (xs ys : List ℕ) → Words32 xs → Words32 ys → Words32 (xs ++ ys)
+words-append [] ys p q i = q i
+words-append (x ∷ xs) ys p q zero = p 0
+words-append (x ∷ xs) ys p q (suc i) = words-append xs ys (λ j. p (suc j)) q i
+
+pub words-cons : (x : ℕ) (xs : List ℕ) → x < 4294967296 → Words32 xs → Words32 (x ∷ xs)
+words-cons x xs p q zero = p
+words-cons x xs p q (suc i) = q i
+
+pub words-nil : Words32 []
+words-nil i = omega arith
+
+-- a list of words is written in bytes
+pub bytes-small : (ws : List ℕ) → Words32 ws → Bytes (bytes ws)
+unfolding bytes
+bytes-small [] h i = omega arith
+bytes-small (w ∷ ws) h zero = omega arith
+bytes-small (w ∷ ws) h (suc zero) = omega arith
+bytes-small (w ∷ ws) h (suc (suc zero)) = omega arith
+bytes-small (w ∷ ws) h (suc (suc (suc zero))) = let p : w < 4294967296 = h 0 in omega arith
+bytes-small (w ∷ ws) h (suc (suc (suc (suc i)))) = bytes-small ws (λ j. h (suc j)) i

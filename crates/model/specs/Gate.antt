@@ -47,7 +47,7 @@ size N = length (N .nodes)
 -- ---- the shape of a gate
 
 -- how many inputs a kind has (document 01's table)
-unfoldable pub fitsKind : Kind → ℕ → Bool
+abbrev pub fitsKind : Kind → ℕ → Bool
 fitsKind And2 n = eqb n 2
 fitsKind Xor2 n = eqb n 2
 fitsKind And3 n = eqb n 3

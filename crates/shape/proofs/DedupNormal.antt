@@ -172,7 +172,7 @@ module _ (S : ℕ → Type 0) (k : Closed S) where
 
     module _ (two : 2 ≤ n) where
       andSorted-form : (x y : ℕ) (z : Bool) → S x → S y → Form S n (andSorted x y z)
-      unfolding andSorted made2 shaped fitsCode fitsKind fitsTable kindOf
+      unfolding andSorted made2 shaped fitsCode fitsTable kindOf
       andSorted-form x y z p q =
           by-or2 (Form S n) x 0 x (neg y) (λ e. bool-form z) (λ e. bool-form z) (λ _ _.
           by-or2 (Form S n) x 1 x y (λ e. copy-form _ (k .has-flip y z q)) (λ e. copy-form _ (k .has-flip y z q)) (λ _ _.
@@ -183,7 +183,7 @@ module _ (S : ℕ → Type 0) (k : Closed S) where
       and-form a b z p q = andSorted-form (least a b) (most a b) z (least-in a b p q) (most-in a b p q)
 
       xorSorted-form : (x y : ℕ) (z : Bool) → S x → S y → Form S n (xorSorted x y z)
-      unfolding xorSorted made2 shaped fitsCode fitsKind fitsTable kindOf
+      unfolding xorSorted made2 shaped fitsCode fitsTable kindOf
       xorSorted-form x y z p q =
           by-eq (Form S n) x 0 (λ e. copy-form _ (k .has-flip y z q)) (λ _.
           by-eq (Form S n) x y (λ e. bool-form z) (λ _.
@@ -213,7 +213,7 @@ module _ (S : ℕ → Type 0) (k : Closed S) where
       two = omega arith
 
       and3Sorted-form : (x y w : ℕ) (z : Bool) → S x → S y → S w → Form S n (and3Sorted x y w z)
-      unfolding and3Sorted made3 shaped fitsCode fitsKind fitsTable kindOf
+      unfolding and3Sorted made3 shaped fitsCode fitsTable kindOf
       and3Sorted-form x y w z p q r =
           by-or3 (Form S n) x 0 x (neg y) w (neg y) (λ e. bool-form z) (λ e. bool-form z) (λ e. bool-form z) (λ _ _ _.
           by-or2 (Form S n) x 1 x y (λ e. and-form two y w z q r) (λ e. and-form two y w z q r) (λ _ _.
@@ -225,7 +225,7 @@ module _ (S : ℕ → Type 0) (k : Closed S) where
       and3-form a b c z p q r = and3Sorted-form _ _ _ z (low-in a b c p q r) (mid-in a b c p q r) (high-in a b c p q r)
 
       xor3Sorted-form : (x y w : ℕ) (z : Bool) → S x → S y → S w → Form S n (xor3Sorted x y w z)
-      unfolding xor3Sorted made3 shaped fitsCode fitsKind fitsTable kindOf
+      unfolding xor3Sorted made3 shaped fitsCode fitsTable kindOf
       xor3Sorted-form x y w z p q r =
           by-eq (Form S n) x 0 (λ e. xor-form two y w z q r) (λ _.
           by-eq (Form S n) x y (λ e. copy-form _ (k .has-flip w z r)) (λ _.
@@ -241,7 +241,7 @@ module _ (S : ℕ → Type 0) (k : Closed S) where
           xor3Sorted-form _ _ _ _ (low-in _ _ _ p′ q′ r′) (mid-in _ _ _ p′ q′ r′) (high-in _ _ _ p′ q′ r′)
 
       muxPlain-form : (s a b : ℕ) (z : Bool) → S s → S a → S b → Form S n (muxPlain s a b z)
-      unfolding muxPlain made3 shaped fitsCode fitsKind fitsTable kindOf
+      unfolding muxPlain made3 shaped fitsCode fitsTable kindOf
       muxPlain-form s a b z p q r =
           let ns = k .has-flip s true p in
           let na = k .has-flip a true q in
@@ -272,7 +272,7 @@ module _ (S : ℕ → Type 0) (k : Closed S) where
           by-test (Form S n) (isInverted s) (λ e. muxSelect-form (neg s) b a z (k .has-flip s true p) r q) (λ e. muxSelect-form s a b z p q r)
 
       majPlain-form : (x y w : ℕ) (z : Bool) → S x → S y → S w → Form S n (majPlain x y w z)
-      unfolding majPlain made3 shaped fitsCode fitsKind fitsTable kindOf
+      unfolding majPlain made3 shaped fitsCode fitsTable kindOf
       majPlain-form x y w z p q r =
           by-eq (Form S n) x 0 (λ e. and-form two y w z q r) (λ _.
           gate-form _ z (record { is-shaped = refl; comb = refl; few = three; signals = (p, (q, (r, tt))) }))
@@ -295,7 +295,7 @@ module _ (S : ℕ → Type 0) (k : Closed S) where
     -- ---- any number of inputs
 
     andSome-form : (x : ℕ) (l : List ℕ) (z : Bool) → suc (length l) ≤ n → S x → All S l → Form S n (andSome x l z)
-    unfolding andSome shaped fitsCode fitsKind fitsTable kindOf
+    unfolding andSome shaped fitsCode fitsTable kindOf
     andSome-form x [] z m p h = copy-form _ (k .has-flip x z p)
     andSome-form x (y ∷ []) z m p h = and-form m x y z p (h .0)
     andSome-form x (y ∷ w ∷ []) z m p h = and3-form m x y w z p (h .0) (h .1 .0)
@@ -316,7 +316,7 @@ module _ (S : ℕ → Type 0) (k : Closed S) where
         (λ e. andWide-form (uniq (sorted r)) z few (uniq-all S (sorted r) (sorted-all S r (without-all S 1 l h))))
 
     xorSome-form : (l : List ℕ) (z : Bool) → length l ≤ n → All S l → Form S n (xorSome l z)
-    unfolding xorSome shaped fitsCode fitsKind fitsTable kindOf
+    unfolding xorSome shaped fitsCode fitsTable kindOf
     xorSome-form [] z m h = bool-form z
     xorSome-form (x ∷ []) z m h = copy-form _ (k .has-flip x z (h .0))
     xorSome-form (x ∷ y ∷ []) z m h = xor-form m x y z (h .0) (h .1 .0)

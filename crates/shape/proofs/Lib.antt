@@ -15,3 +15,17 @@ pub mod Dedup
 pub mod FactoringLists
 pub mod FactoringFuel
 pub mod FactoringBest
+pub mod Walks
+pub mod Accepted
+pub mod Shaped
+pub mod Written
+pub mod Accepts
+pub mod Back
+pub mod Valids
+pub mod Sizes
+pub mod Records
+pub mod Told
+pub mod ToldSignals
+pub mod Ladder
+pub mod Numbers
+pub mod RoundTrips

@@ -1,0 +1,15 @@
+use Rattle.image.proofs.Places.{parts}
+use borrow.Author.Needs.{needs}
+use Rattle.image.proofs.record.Statement.{statement}
+use Rattle.image.proofs.record.Tie as tie
+
+pub record-spec : {M : Type 1} → statement M
+record-spec =
+    tie.close
+    (tie.spec
+    (λ c κs. search needs)
+    (λ c. search (needs, parts))
+    (λ c. search needs)
+    (λ c. search needs)
+    (λ c. search (needs, parts))
+    (λ c. search (needs, parts)))

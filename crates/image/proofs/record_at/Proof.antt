@@ -1,0 +1,11 @@
+use Rattle.image.proofs.Places.{parts}
+use borrow.Author.Needs.{needs}
+use Rattle.image.proofs.record_at.Statement.{statement}
+use Rattle.image.proofs.record_at.Tie as tie
+
+pub record-at-spec : {M : Type 1} → statement M
+record-at-spec =
+    tie.close
+    (tie.spec
+    (λ c κs. search needs)
+    (λ c. search (needs, parts)))

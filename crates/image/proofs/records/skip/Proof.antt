@@ -1,0 +1,27 @@
+use mathlib.Core.Path.{_≡_}
+use borrow.Author.Needs.{needs}
+use Rattle.model.specs.Image.{words, endFrom}
+use Rattle.image.proofs.Layouts.{walks}
+use Rattle.image.proofs.records.skip.Statement.{statement}
+use Rattle.image.proofs.records.skip.Tie as tie
+
+abbrev Inv-loop : tie.InvT-loop
+Inv-loop body k left₀ at₀ left at = endFrom left (words body) at ≡ endFrom k (words body) 0
+
+abbrev μ-loop : tie.MeasureT-loop
+μ-loop body k left₀ at₀ left at = left
+
+pub skip-spec : {M : Type 1} → statement M
+skip-spec =
+    tie.close
+    (tie.spec
+    Inv-loop
+    μ-loop
+    (λ c. search (needs, walks))
+    (λ c κs. search (needs, walks))
+    (λ c κs. search (needs, walks))
+    (λ c. search (needs, walks))
+    (λ c. search (needs, walks))
+    (λ c. search (needs, walks))
+    (λ c. search (needs, walks))
+    (λ c. search (needs, walks)))

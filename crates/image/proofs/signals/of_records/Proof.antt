@@ -1,0 +1,47 @@
+use mathlib.Core.Path.{_≡_}
+use Prim.Native.Nat.{_-_}
+use native.Mathlib.Omega.{arith}
+use borrow.Author.Needs.{needs}
+use Rattle.model.specs.Image.{words, endFrom}
+use Rattle.image.specs.Reader.{gatesWiring}
+use Rattle.image.proofs.Wires.{joined, turn-step, gates-step, gates}
+use Rattle.image.proofs.signals.of_records.Statement.{statement}
+use Rattle.image.proofs.signals.of_records.Tie as tie
+
+abbrev Inv-loop : tie.InvT-loop
+Inv-loop body inputs nodes v₀ at₀ named₀ sorted₀ v at named sorted =
+    (gatesWiring inputs nodes 0 nodes (words body) 0 ≡ joined named sorted (gatesWiring inputs nodes v (nodes - v) (words body) at))
+    × (endFrom (nodes - v) (words body) at ≡ endFrom nodes (words body) 0)
+
+abbrev μ-loop : tie.MeasureT-loop
+μ-loop body inputs nodes v₀ at₀ named₀ sorted₀ v at named sorted = nodes - v
+
+loop-again : tie.Need-loop-again Inv-loop μ-loop
+loop-again c =
+    let inv = c .before .before .before .before .before .before .before .before .loop .inv in
+    let header = c .before .before .before .before .before .before .nth .ensures in
+    let ins = c .before .before .before .before .before .of-words .ensures in
+    let kind = c .before .before .before .kind-of .ensures in
+    let dff = c .before .before .is-flip-flop .ensures in
+    let size = c .size-of .ensures in
+    (gates-step _ _ _ _ _ _ _ _ (inv .0) (omega arith) _ header _ ins _ kind _ dff _ size, turn-step _ _ _ _ _ (inv .1) (omega arith) _ header _ size)
+
+pub of-records-spec : {M : Type 1} → statement M
+of-records-spec =
+    tie.close
+    (tie.spec
+    Inv-loop
+    μ-loop
+    (λ c. search (needs, gates))
+    (λ c κs. search (needs, gates))
+    (λ c. search (needs, gates))
+    (λ c. search (needs, gates))
+    (λ c κs. search (needs, gates))
+    (λ c κs. search (needs, gates))
+    (λ c κs. search (needs, gates))
+    (λ c κs. search (needs, gates))
+    (λ c. search (needs, gates))
+    (λ c. search (needs, gates))
+    (λ c. search (needs, gates))
+    loop-again
+    (λ c. search (needs, gates)))
