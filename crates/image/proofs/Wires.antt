@@ -18,13 +18,13 @@ use Rattle.laws.proofs.Bools.{and-left, and-right, and-split, and-assoc}
 use Rattle.laws.proofs.Choices.{by-bool}
 use Rattle.kinds.specs.Kinds.{kindOf, isFlipFlop}
 use Rattle.kinds.specs.declared.Kind.{Kind}
-use Rattle.model.specs.Signal.{rnode, ref, isInput, isConstant}
+use Rattle.model.specs.Signal.{rnode, ref, isInput, isConstant, isVar}
 use Rattle.model.specs.Gate.{namedRef, named, allNamed, gatesNamed, belowRef, allBelow, sortedFrom, isDff}
 use Rattle.model.specs.Image.{words, codeAt, countAt, sizeAt, recordGate, gatesFrom, endFrom}
 use Rattle.model.proofs.Bytes.{length-words}
 use Rattle.model.proofs.Words.{constant-ref, var-ref, input-ref}
 use Rattle.model.proofs.Named.{named-is}
-use Rattle.signal.specs.Signals.{isVar}
+use Rattle.shape.proofs.Wires.{var-low, var-high, var-names}
 use Rattle.image.specs.Reader.{sizeOf, wiringFrom, gatesWiring}
 use Rattle.image.specs.declared.signals.Wiring.{Wiring}
 use Rattle.image.proofs.Fits.{size-is, count-is}
@@ -43,21 +43,15 @@ module _ (s : ℕ) (t : Bool) (e : t ≡ isInput s) where
   named-input i n k w q z = rw z (sym (named-is i n s w ∙ ap (namedRef i n) (input-ref s (high-input q))))
 
 module _ (s : ℕ) (u : Bool) (e : u ≡ isVar s) where
-  low-var : u ≡ true → s < 2147483648
-  low-var q =
-      ltb-true s 2147483648 (not-false (ltb s 2147483648) (not-true (isInput s) (and-left (not (isInput s)) (not (isConstant s)) (sym e ∙ q))))
-
   pub some-var : u ≡ true → 2 ≤ s
-  some-var q =
-      let z : s / 2 ≢ 0 = eqb-false (s / 2) 0 (not-true (isConstant s) (and-right (not (isInput s)) (not (isConstant s)) (sym e ∙ q))) in
-      omega arith
+  some-var q = var-low s (sym e ∙ q)
 
   var-is : u ≡ true → ref s ≡ rnode (s / 2 - 1)
-  var-is q = var-ref s (some-var q) (low-var q)
+  var-is q = var-names s (sym e ∙ q)
 
   pub named-var : (i n v : ℕ) → u ≡ true → v ≡ s / 2 - 1 → ltb v n ≡ named i n s
   named-var i n v q z =
-      let l = low-var q in
+      let l = var-high s (sym e ∙ q) in
       rw z (sym (named-is i n s (omega arith) ∙ ap (namedRef i n) (var-is q)))
 
   pub below-var : (b v : ℕ) → u ≡ true → v ≡ s / 2 - 1 → ltb v b ≡ belowRef b (ref s)
@@ -65,6 +59,7 @@ module _ (s : ℕ) (u : Bool) (e : u ≡ isVar s) where
 
   -- neither an input nor a node
   pub named-constant : (i n : ℕ) (t : Bool) → t ≡ isInput s → t ≡ false → u ≡ false → true ≡ named i n s
+  unfolding isVar
   named-constant i n t f p q =
       let l : s < 2147483648 = low-input s t f p in
       let z : isConstant s ≡ true = constant-of (isInput s) (isConstant s) (sym f ∙ p) (sym e ∙ q) in
@@ -74,6 +69,7 @@ module _ (s : ℕ) (u : Bool) (e : u ≡ isVar s) where
       constant-of x y a b = not-false y (simp a at b)
 
   pub below-other : (b : ℕ) → u ≡ false → true ≡ belowRef b (ref s)
+  unfolding isVar
   below-other b q = by-bool (isInput s)
       (λ i. sym (ap (belowRef b) (input-ref s (high-input s (isInput s) refl i))))
       (λ i. sym (ap (belowRef b) (constant-ref s (eqb-true (s / 2) 0 (not-false (isConstant s) (simp i at (sym e ∙ q)))))))
