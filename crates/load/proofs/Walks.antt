@@ -8,7 +8,7 @@ use lib.ListN.{length, take, drop, length-drop}
 use lib.Seq.{length-take-le}
 use Rattle.model.specs.Gate.{Gate, fanin}
 use Rattle.model.specs.Image.{countAt, sizeAt, recordGate, gatesFrom, endFrom}
-use Rattle.tables.proofs.Nets.{fanin-append, fanin-one}
+use Rattle.tables.proofs.Holding.{fanin-append, fanin-one}
 
 -- a walk never goes back
 pub end-le : (k : ℕ) (ws : List ℕ) (at : ℕ) → at ≤ endFrom k ws at

@@ -7,18 +7,19 @@ use native.Mathlib.Omega.{arith}
 use lib.ListN.{length, getD}
 use lib.Dec.{ltb}
 use borrow.Author.Tests.{ltb-true}
-use Rattle.laws.specs.Lists.{tab}
+use Rattle.laws.specs.Lists.{All, tab}
+use Rattle.laws.proofs.Lists.{all-at}
 use Rattle.laws.proofs.Tabs.{length-tab, getD-tab}
 use Rattle.laws.proofs.Bools.{and-left, and-right}
 use Rattle.kinds.specs.Kinds.{kindOf}
 use Rattle.model.specs.Gate.{Gate, Net, Valid, noGate, size, fitsKind, fitsCode, fitsTable, shaped, fanin, named, allNamed, gatesNamed, wired}
 use Rattle.model.specs.Gate as model
 use Rattle.model.specs.Network.{sumTo}
+use Rattle.shape.proofs.Named.{Here, shaped-at, wired-ins, wired-outs}
 use Rattle.tables.specs.Layout.{netSize, kindAt, firstAt, countAt, inputAt, lowAt, highAt, outputAt, insAt, gateAt, nodesOf, outputsOf, netOf}
 use Rattle.tables.specs.Building.{Packed}
 use Rattle.tables.specs.Holding.{networkOf, Held, Holds}
 use Rattle.tables.specs.declared.counts.Counts.{Counts}
-use Rattle.tables.proofs.Nets.{shaped-at, named-at, gate-named-at, fanin-append, fanin-one}
 use Rattle.tables.proofs.Building.{nodesOf-next, nodesOf-none}
 
 pub net≡ : {a b : Net} → a .inputs ≡ b .inputs → a .nodes ≡ b .nodes → a .outs ≡ b .outs → a ≡ b
@@ -55,6 +56,15 @@ module _ (l : List ℕ) (v : ℕ) where
 pub length-ins : (l : List ℕ) (v : ℕ) → length (gateAt l v .ins) ≡ countAt l v
 unfolding gateAt
 length-ins l v = length-insAt l v
+
+pub fanin-append : (gs hs : List Gate) → fanin (gs ++ hs) ≡ fanin gs + fanin hs
+unfolding fanin
+fanin-append [] hs = omega arith
+fanin-append (g ∷ gs) hs = rw (fanin-append gs hs) (omega arith)
+
+pub fanin-one : (g : Gate) → fanin (g ∷ []) ≡ length (g .ins)
+unfolding fanin
+fanin-one g = omega arith
 
 pub fanin-next : (l : List ℕ) (v : ℕ) → fanin (nodesOf l (suc v)) ≡ fanin (nodesOf l v) + countAt l v
 fanin-next l v = rw (nodesOf-next l v, fanin-append, fanin-one, length-ins l v)
@@ -95,17 +105,16 @@ module _ (l : List ℕ) (c : Counts) where
     counts-few = omega (arith, total-few, fanin-nodesOf l (c .nodes))
 
     pub output-named : (j : ℕ) → j < c .outs → named (c .inputs) (c .nodes) (outputAt l j) ≡ true
-    unfolding networkOf netOf wired
+    unfolding networkOf netOf
     output-named j h =
         let os = outputsOf l (c .outs) in
-        let w = and-right (gatesNamed (c .inputs) (size (networkOf l c)) (nodesOf l (c .nodes))) (allNamed (c .inputs) (size (networkOf l c)) os) (H .valid .signals) in
-        let g = named-at (c .inputs) (size (networkOf l c)) os w j (rw (length-outputsOf l (c .outs)) h) in
+        let g = all-at (Here (c .inputs) (size (networkOf l c))) os 0 (wired-outs (networkOf l c) (H .valid .signals)) j (rw (length-outputsOf l (c .outs)) h) in
         rw (getD-outputsOf l (c .outs) j h, size-network) at g
 
     module _ (v : ℕ) (h : v < c .nodes) where
       node-shaped : shaped (gateAt l v) ≡ true
       unfolding networkOf netOf
-      node-shaped = rw (getD-nodesOf l (c .nodes) v h) at (shaped-at (nodesOf l (c .nodes)) noGate (H .valid .gates-shaped) v (rw (length-nodesOf l (c .nodes)) h))
+      node-shaped = rw (getD-nodesOf l (c .nodes) v h) at (shaped-at (nodesOf l (c .nodes)) (H .valid .gates-shaped) v (rw (length-nodesOf l (c .nodes)) h))
 
       pub kind-fits : fitsCode (kindAt l v) (countAt l v) ≡ true
       unfolding shaped gateAt
@@ -126,15 +135,12 @@ module _ (l : List ℕ) (c : Counts) where
       kind-known = ltb-true (kindAt l v) 15 (and-left (ltb (kindAt l v) 15) (fitsKind (kindOf (kindAt l v)) (countAt l v)) kind-fits)
 
       pub input-named : (j : ℕ) → j < countAt l v → named (c .inputs) (c .nodes) (inputAt l (firstAt l v + j)) ≡ true
-      unfolding networkOf netOf wired gateAt
+      unfolding networkOf netOf gateAt
       input-named j q =
-          let ns = nodesOf l (c .nodes) in
-          let w = and-left (gatesNamed (c .inputs) (size (networkOf l c)) ns) (allNamed (c .inputs) (size (networkOf l c)) (outputsOf l (c .outs))) (H .valid .signals) in
-          let g : allNamed (c .inputs) (size (networkOf l c)) (insAt l v) ≡ true =
-          subst (λ (x : Gate). allNamed (c .inputs) (size (networkOf l c)) (x .ins) ≡ true) (getD-nodesOf l (c .nodes) v h)
-          (gate-named-at (c .inputs) (size (networkOf l c)) ns noGate w v (rw (length-nodesOf l (c .nodes)) h)) in
-          let n = named-at (c .inputs) (size (networkOf l c)) (insAt l v) g j (rw (length-insAt l v) q) in
-          rw (getD-insAt l v j q, size-network) at n
+          let P = Here (c .inputs) (size (networkOf l c)) in
+          let g : All P (insAt l v) =
+          subst (λ (x : Gate). All P (x .ins)) (gate-network v h) (wired-ins (networkOf l c) (H .valid .signals) v (rw size-network h)) in
+          rw (getD-insAt l v j q, size-network) at (all-at P (insAt l v) 0 g j (rw (length-insAt l v) q))
 
 -- ---- a pass that has put a valid network into an area holds it
 
