@@ -1,7 +1,7 @@
 ghost use mathlib.Core.Path.{_≡_};
 ghost use Prim.Native.Nat.{ℕ, _+_, _-_, _*_, _<_, _≤_};
 ghost use lib.ListN.{length};
-ghost use Rattle.model.specs.Answers.{cleared};
+ghost use Rattle.model.specs.Answers.{areasShort, cleared};
 ghost use Rattle.tables.specs.Layout.{netSize, kindIx, firstIx, countIx, kindAt, firstAt, countAt, inputAt, lowAt, highAt, outputAt, putGate, putInput, putTable, putOutput};
 
 const INS: usize = 1536;
@@ -122,6 +122,13 @@ pub fn put_output(net: &mut [u32], o: usize, s: u32)
     ensures { λ _. ⌜ now (net .exit) ≡ putOutput (now (net .entry)) o s ⌝ }
 {
     net[OUT + o] = s;
+}
+
+// 1: "either of the two work areas is below 16,384 words".
+pub fn areas_short(a: &[u32], b: &[u32]) -> bool
+    ensures { λ r. ⌜ r ≡ areasShort (now (a .entry)) (now (b .entry)) ⌝ }
+{
+    (a.len() < 16384) | (b.len() < 16384)
 }
 
 // The first 16,384 words of an area, zero; the rest as found.

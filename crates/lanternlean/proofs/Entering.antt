@@ -1,0 +1,66 @@
+-- The outside of every entry: 1, or its work over the first 16,384 words of both areas, which are then cleared.
+-- The premises are what an entry's code meets: `areas_short`, the work's promise on the parts, and `clear`'s of each area.
+use mathlib.Core.Path.{_≡_, refl, sym, ap, _∙_}
+use mathlib.Core.Bool.{Bool, true, false, cond, _||_}
+use mathlib.Core.List.{List, _++_}
+use Prim.Native.Nat.{ℕ, _≤_, _<_}
+use native.Mathlib.Omega.{arith}
+use lib.ListN.{length, take, drop, replicate}
+use lib.Seq.{drop-at, length-take-le, length-front}
+use lib.Dec.{ltb}
+use borrow.Author.Tests.{ltb-false}
+use Rattle.answers.specs.declared.Answer.{Answer}
+use Rattle.answers.specs.declared.Answer.the-variants.{Refused}
+use Rattle.laws.proofs.Bools.{or-left, or-right}
+use Rattle.model.specs.Answers.{Outcome, areasShort, cleared, areaAfter, inAreas, Kept, Kept2}
+use Rattle.tables.specs.Working.{Answered, Answered2}
+
+-- what `areas_short` found
+module _ (a b : List ℕ) (t : Bool) (e : t ≡ areasShort a b) where
+  module _ (s : t ≡ true) (o : Outcome) (out : List ℕ) where
+    pub short-kept : Kept (inAreas a b o) out a b (Refused 1) out a b
+    unfolding inAreas areaAfter
+    short-kept = let z : areasShort a b ≡ true = sym e ∙ s in record { answer = rw z; result = rw z; area-a = rw z; area-b = rw z }
+
+    pub short-kept2 : (second : List ℕ) → Kept2 (inAreas a b o) out second a b (Refused 1) out second a b
+    unfolding inAreas
+    short-kept2 second = let z : areasShort a b ≡ true = sym e ∙ s in record { first = short-kept; second-is = rw z }
+
+  module _ (s : t ≡ false) where
+    long : areasShort a b ≡ false
+    long = sym e ∙ s
+
+    pub long-a : 16384 ≤ length a
+    unfolding areasShort
+    long-a = ltb-false (length a) 16384 (or-left (ltb (length a) 16384) (ltb (length b) 16384) long)
+
+    pub long-b : 16384 ≤ length b
+    unfolding areasShort
+    long-b = ltb-false (length b) 16384 (or-right (ltb (length a) 16384) (ltb (length b) 16384) long)
+
+    module _ (a′ b′ : List ℕ) (ea : a′ ≡ cleared a) (eb : b′ ≡ cleared b) (o : Outcome) (out : List ℕ) (r : Answer) (out′ : List ℕ) where
+      pub work-kept : Answered o out r out′ → Kept (inAreas a b o) out a b r out′ a′ b′
+      unfolding inAreas areaAfter
+      work-kept D = record { answer = rw long (D .answer); result = rw long (D .result); area-a = rw long ea; area-b = rw long eb }
+
+      pub work-kept2 : (second second′ : List ℕ) → Answered2 o out second r out′ second′ → Kept2 (inAreas a b o) out second a b r out′ second′ a′ b′
+      unfolding inAreas
+      work-kept2 second second′ D = record { first = work-kept (D .first); second-is = rw long (D .second-is) }
+
+-- the part that is lent
+pub part-long : (l : List ℕ) → 16384 ≤ length l → 16384 ≤ length (take 16384 l)
+part-long l h = rw (length-take-le 16384 l h) (omega arith)
+
+-- an area whose first words come back as x
+module _ (x l : List ℕ) (k : length x ≡ length (take 16384 l)) where
+  pub long-back : 16384 ≤ length l → 16384 ≤ length (x ++ drop 16384 l)
+  long-back h = rw (length-front l x 16384 k) h
+
+  pub cleared-back : 16384 ≤ length l → (l′ : List ℕ) → l′ ≡ cleared (x ++ drop 16384 l) → l′ ≡ cleared l
+  unfolding cleared
+  cleared-back h l′ e = e ∙ ap (λ (y : List ℕ). replicate 16384 0 ++ y) (drop-at x (drop 16384 l) 16384 (k ∙ length-take-le 16384 l h))
+
+  pub same-back : (l′ : List ℕ) → length l′ ≡ length (x ++ drop 16384 l) → length l′ ≡ length l
+  same-back l′ e = e ∙ length-front l x 16384 k
+
+pub ruleset enters = (short-kept, short-kept2, long-a, long-b, work-kept, work-kept2, part-long, long-back, cleared-back, same-back)

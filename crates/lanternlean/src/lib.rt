@@ -1,0 +1,1 @@
+// The public entries: each promises its answer and every lent word afterwards, for every input.
