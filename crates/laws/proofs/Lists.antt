@@ -72,6 +72,11 @@ unfolding someBelow
 none-some f zero h = refl
 none-some f (suc n) h = rw (none-some f n (λ k l. h k (omega arith))) (h n (omega arith))
 
+pub some-ext : (f g : ℕ → Bool) (n : ℕ) → ((k : ℕ) → k < n → f k ≡ g k) → someBelow f n ≡ someBelow g n
+unfolding someBelow
+some-ext f g zero h = refl
+some-ext f g (suc n) h = rw (some-ext f g n (λ k l. h k (omega arith)), h n (omega arith))
+
 -- a list of one, two or three
 module _ {ℓ} {A : Type 0} (P : List A → Type ℓ) where
   pub by-one : (l : List A) → eqb (length l) 1 ≡ true → ((a : A) → P (a ∷ [])) → P l

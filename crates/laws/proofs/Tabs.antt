@@ -1,12 +1,13 @@
 -- Laws of a list by a function.
-use Prim.Native.Nat.{ℕ, zero, suc, _≤_, _<_}
-use mathlib.Core.Path.{_≡_, refl, ap, _∙_}
+use Prim.Native.Nat.{ℕ, zero, suc, _+_, _-_, _≤_, _<_}
+use mathlib.Core.Path.{_≡_, refl, sym, ap, _∙_}
 use mathlib.Core.Logic.{⊎-elim}
 use mathlib.Core.List.{List, [], _∷_, _++_, map, map-append}
 use native.Mathlib.Nat.{eq-or-lt-of-le, le-of-suc-le-suc}
 use native.Mathlib.Omega.{arith}
-use lib.ListN.{length, getD, take, drop, length-append, List·getD-append}
-use lib.Seq.{getD-at, drop-cons, take-suc}
+use native.Mathlib.Numerals.{add-one}
+use lib.ListN.{length, getD, take, drop, set, length-append, length-drop, List·getD-append}
+use lib.Seq.{getD-at, set-at, drop-cons, take-suc, append-snoc}
 use Rattle.laws.specs.Lists.{tab}
 
 module _ {A : Type 0} where
@@ -41,3 +42,23 @@ pub take-tab : (xs : List ℕ) (m : ℕ) → m ≤ length xs → take m xs ≡ t
 unfolding tab
 take-tab xs zero h = refl
 take-tab xs (suc m) h = take-suc xs m 0 h ∙ ap (λ l. l ++ (getD xs m 0 ∷ [])) (take-tab xs m (omega arith))
+
+-- a list filled from the front by a function: tab f k ++ drop k l
+module _ (f : ℕ → ℕ) (l : List ℕ) where
+  pub fill-put : (k : ℕ) → k < length l → set (tab f k ++ drop k l) k (f k) ≡ tab f (k + 1) ++ drop (k + 1) l
+  unfolding tab
+  fill-put k h =
+      rw (add-one, drop-cons l k 0 h)
+      (set-at (tab f k) (getD l k 0) (drop (suc k) l) (f k) k (length-tab f k) ∙ sym (append-snoc (tab f k) (f k) (drop (suc k) l)))
+
+  pub fill-read : (k : ℕ) → k < length l → getD (tab f k ++ drop k l) k 0 ≡ getD l k 0
+  fill-read k h =
+      ap (λ (d : List ℕ). getD (tab f k ++ d) k 0) (drop-cons l k 0 h)
+      ∙ getD-at (tab f k) (getD l k 0) (drop (suc k) l) 0 k (length-tab f k)
+
+  pub fill-skip : (k : ℕ) → k < length l → f k ≡ getD l k 0 → tab f k ++ drop k l ≡ tab f (k + 1) ++ drop (k + 1) l
+  unfolding tab
+  fill-skip k h e = rw (add-one, drop-cons l k 0 h, ← e) (sym (append-snoc (tab f k) (f k) (drop (suc k) l)))
+
+  pub length-fill : (k : ℕ) → k ≤ length l → length (tab f k ++ drop k l) ≡ length l
+  length-fill k h = simp (length-append, length-tab, length-drop) (omega arith)

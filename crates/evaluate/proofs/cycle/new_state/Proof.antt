@@ -1,0 +1,20 @@
+-- By the three values and `next_state`.
+use borrow.Author.Needs.{needs}
+use Rattle.evaluate.proofs.Turns.{turns}
+use Rattle.evaluate.proofs.cycle.new_state.Statement.{statement}
+use Rattle.evaluate.proofs.cycle.new_state.Tie as tie
+
+pub new-state-spec : {M : Type 1} → statement M
+new-state-spec =
+    tie.close
+    (tie.spec
+    (λ c κs. search (needs, turns))
+    (λ c κs. search (needs, turns))
+    (λ c. search (needs, turns))
+    (λ c κs. search (needs, turns))
+    (λ c κs. search (needs, turns))
+    (λ c. search (needs, turns))
+    (λ c κs. search (needs, turns))
+    (λ c κs. search (needs, turns))
+    (λ c κs. search (needs, turns))
+    (λ c. search (needs, turns)))

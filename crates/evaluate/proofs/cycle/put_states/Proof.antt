@@ -1,0 +1,38 @@
+-- The buffer is filled from the front; the byte of a node that is no flip-flop stays.
+use Prim.Native.Nat.{_-_}
+use Rattle.evaluate.proofs.Turns.{Filled, state-goes, turns}
+use Rattle.evaluate.specs.Values.{newByte}
+use borrow.Author.Needs.{needs}
+use Rattle.evaluate.proofs.cycle.put_states.Statement.{statement}
+use Rattle.evaluate.proofs.cycle.put_states.Tie as tie
+
+abbrev Inv-loop : tie.InvT-loop
+Inv-loop from to state₀ n v₀ state v = Filled (newByte from to state₀) state₀ state v n
+
+abbrev μ-loop : tie.MeasureT-loop
+μ-loop from to state₀ n v₀ state v = n - v
+
+loop-again-2 : tie.Need-loop-again-2 Inv-loop μ-loop
+loop-again-2 c = state-goes _ _ _ _ _ _ _ _ _ _ (c .before .before .before .before .before .before .before .loop .inv) (c .before .before .before .before .before .before .loop-test .taken) (c .before .before .before .before .before .is-dff .ensures) (c .before .before .before .before .if1 .left) (c .before .before .before .first-at .ensures) (c .before .new-state .ensures) (c .byte-if .ensures)
+
+pub put-states-spec : {M : Type 1} → statement M
+put-states-spec =
+    tie.close
+    (tie.spec
+    Inv-loop
+    μ-loop
+    (λ c. search (needs, turns))
+    (λ c κs. search (needs, turns))
+    (λ c. search (needs, turns))
+    (λ c. search (needs, turns))
+    (λ c. search (needs, turns))
+    (λ c κs. search (needs, turns))
+    (λ c. search (needs, turns))
+    (λ c κs. search (needs, turns))
+    (λ c κs. search (needs, turns))
+    (λ c. search (needs, turns))
+    (λ c. search (needs, turns))
+    (λ c. search (needs, turns))
+    loop-again-2
+    (λ c. search (needs, turns))
+    (λ c. search (needs, turns)))

@@ -1,0 +1,99 @@
+// One node's value from the values before it.
+ghost use mathlib.Core.Path.{_≡_};
+ghost use mathlib.Core.Bool.{cond};
+ghost use Prim.Native.Nat.{ℕ, _+_, _<_, _≤_};
+ghost use lib.ListN.{length};
+ghost use Rattle.tables.specs.Layout.{netSize};
+ghost use Rattle.evaluate.specs.Values.{inputValue, onesValue, lutValue, gateValueAt, dffAt, shownAt, Reads, Gated};
+use crate::values::ones;
+use crate::values::value;
+use crate::values::weight;
+use kinds::Kind;
+use kinds::code;
+use kinds::is_flip_flop;
+use kinds::kind_of;
+use tables::layout::count_at;
+use tables::layout::first_at;
+use tables::layout::high_at;
+use tables::layout::input_at;
+use tables::layout::kind_at;
+use tables::layout::low_at;
+use tables::layout::wide;
+
+// By the number n of the inputs that are one, where that is all that matters.
+fn by_ones(k: Kind, count: usize, n: usize) -> bool
+    ensures { λ r. ⌜ r ≡ onesValue k count n ⌝ }
+{
+    match k {
+        Kind::And2 => n == count,
+        Kind::Xor2 => n & 1 == 1,
+        Kind::And3 => n == count,
+        Kind::Xor3 => n & 1 == 1,
+        Kind::Maj => 1 < n,
+        Kind::Mux => false,
+        Kind::AndN => n == count,
+        Kind::OrN => 0 < n,
+        Kind::NandN => n != count,
+        Kind::NorN => n == 0,
+        Kind::XorN => n & 1 == 1,
+        Kind::XnorN => n & 1 != 1,
+        Kind::Buf => 0 < n,
+        Kind::Dff => false,
+        Kind::Lut => false,
+    }
+}
+
+// a if s, else b.
+fn mux(from: &[u32], to: &[u32], first: usize) -> bool
+    requires { ⌜ Reads (now from) (now to) first 3 ⌝ }
+    ensures { λ r. ⌜ r ≡ cond (inputValue (now (from .entry)) (now (to .entry)) first 0) (inputValue (now (from .entry)) (now (to .entry)) first 1) (inputValue (now (from .entry)) (now (to .entry)) first 2) ⌝ }
+{
+    let s = value(to, input_at(from, first));
+    let a = value(to, input_at(from, first + 1));
+    let b = value(to, input_at(from, first + 2));
+    (s & a) | (!s & b)
+}
+
+// The table's bit whose number the inputs make.
+fn lut(from: &[u32], to: &[u32], v: usize, first: usize, count: usize) -> bool
+    requires { ⌜ Reads (now from) (now to) first count × (count ≤ 6) × (v < 512) ⌝ }
+    ensures { λ r. ⌜ r ≡ lutValue (now (from .entry)) (now (to .entry)) v first count ⌝ }
+{
+    let w = weight(from, to, first, count);
+    let t = wide(low_at(from, v)) + 4294967296 * wide(high_at(from, v));
+    (t >> w) & 1 == 1
+}
+
+fn gate_value(from: &[u32], to: &[u32], v: usize) -> bool
+    requires { ⌜ Gated (now from) (now to) v ⌝ }
+    ensures { λ r. ⌜ r ≡ gateValueAt (now (from .entry)) (now (to .entry)) v ⌝ }
+{
+    let first = first_at(from, v);
+    let count = count_at(from, v);
+    let c = kind_at(from, v);
+    if c == code(Kind::Mux) {
+        return mux(from, to, first);
+    }
+    if c == code(Kind::Lut) {
+        return lut(from, to, v, first, count);
+    }
+    by_ones(kind_of(c), count, ones(from, to, first, count))
+}
+
+pub fn is_dff(from: &[u32], v: usize) -> bool
+    requires { ⌜ (v < 512) × (netSize ≤ length (now from)) ⌝ }
+    ensures { λ r. ⌜ r ≡ dffAt (now (from .entry)) v ⌝ }
+{
+    is_flip_flop(kind_of(kind_at(from, v)))
+}
+
+// What node v shows: a flip-flop its state, any other gate its value.
+pub fn node_value(from: &[u32], to: &[u32], state: &[u8], v: usize) -> bool
+    requires { ⌜ Gated (now from) (now to) v × (v < length (now state)) ⌝ }
+    ensures { λ r. ⌜ r ≡ shownAt (now (from .entry)) (now (to .entry)) (now (state .entry)) v ⌝ }
+{
+    if is_dff(from, v) {
+        return state[v] == 1;
+    }
+    gate_value(from, to, v)
+}
