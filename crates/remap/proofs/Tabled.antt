@@ -1,27 +1,31 @@
 -- Lists kept in the tables behind a network, and a held network word by word.
 use mathlib.Core.Path.{_≡_, refl, sym, ap, _∙_}
 use mathlib.Core.Logic.{_≢_}
-use mathlib.Core.Bool.{Bool, true}
-use Prim.Native.Nat.{ℕ, zero, suc, _+_, _*_, _<_, _≤_}
+use mathlib.Core.Bool.{Bool, true, false, cond}
+use Prim.Native.Nat.{ℕ, zero, suc, _+_, _<_, _≤_, zero-le}
 use native.Mathlib.Nat.{not-suc-le-zero, le-refl}
 use native.Mathlib.Omega.{arith}
 use native.Mathlib.Decide.{ℕ-discrete}
 use native.Mathlib.Numerals.{add-one}
 use mathlib.Core.List.{List, [], _∷_, _++_}
-use lib.ListN.{length, getD}
+use lib.ListN.{length}
+use lib.Dec.{eqb}
+use borrow.Author.Tests.{eq-eqb, ne-eqb}
 use Rattle.kinds.specs.Kinds.{kindOf, isFlipFlop}
+use Rattle.laws.specs.Bools.{bit}
 use Rattle.laws.specs.Lists.{tab}
 use Rattle.laws.proofs.Tabs.{length-tab}
-use Rattle.model.specs.Gate.{Gate, Net, isDff, size}
-use Rattle.model.specs.Network.{isD, deps, vars}
+use Rattle.model.specs.Gate.{Gate, isDff, size}
+use Rattle.model.specs.Network.{isD, deps, vars, sumTo, unseen}
 use Rattle.model.proofs.Names.{named-names}
 use Rattle.shape.specs.Forms.{Below, Inside, OutsInside}
+use Rattle.shape.proofs.Sums.{sum-mono}
 use Rattle.shape.proofs.Wires.{names-below, vars-length, wired-inside, wired-outs-inside}
 use Rattle.tables.specs.Layout.{kindAt, firstAt, countAt, inputAt, insAt, outputAt, gateAt, outputsOf, netOf, cell, store, stackBase, orderBase}
 use Rattle.tables.specs.Holding.{networkOf, Held}
 use Rattle.tables.specs.declared.counts.Counts.{Counts}
 use Rattle.tables.proofs.Places.{length-store, cell-store, cell-store-other}
-use Rattle.tables.proofs.Holding.{gate-network, nodes-few, outs-few, counts-few, output-named, input-named}
+use Rattle.tables.proofs.Holding.{size-network, gate-network, nodes-few, outs-few, counts-few, output-named, input-named}
 use Rattle.remap.specs.Tables.{stackOf, orderFrom, clearedTable, insFrom, Sound}
 
 -- ---- a cleared table
@@ -137,3 +141,24 @@ module _ (from : List ℕ) (c : Counts) where
     outs-named = λ j h. names-below (c .nodes) (outputAt from j) (named-names (c .inputs) (c .nodes) (outputAt from j) (output-named from c H j h));
     total = counts-few from c H;
   }
+
+-- ---- marks, and the work that is left of a walk over the network
+
+-- a mark's word tells whether its node was seen
+pub mark-cond : (b : Bool) (m x : ℕ) → m ≡ bit b → cond (eqb m 0) x 0 ≡ cond b 0 x
+mark-cond true m x e = ap (λ (c : Bool). cond c x 0) (ne-eqb m 0 (omega arith))
+mark-cond false m x e = ap (λ (c : Bool). cond c x 0) (eq-eqb m 0 e)
+
+cond-le : (b : Bool) (x : ℕ) → cond b 0 x ≤ x
+cond-le true x = zero-le
+cond-le false x = le-refl x
+
+-- what is not seen names no more nodes than there are inputs
+pub unseen-most : (from : List ℕ) (c : Counts) → Sound from c → (vis : ℕ → Bool) → sumTo (unseen (networkOf from c) vis) (size (networkOf from c)) ≤ 2048
+unseen-most from c ok vis =
+    rw (size-network from c)
+    (omega (
+      arith,
+      ok .total,
+      sum-mono (unseen (networkOf from c) vis) (countAt from) (c .nodes) (λ u h. omega (arith, cond-le (vis u) (length (deps (networkOf from c) u)), deps-length from c u h)),
+    ))

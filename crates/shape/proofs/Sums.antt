@@ -34,6 +34,14 @@ pub bit-le : (b : Bool) → bit b ≤ 1
 bit-le true = le-refl 1
 bit-le false = zero-le
 
+pub bit-pos : (b : Bool) → 0 < bit b → b ≡ true
+bit-pos true h = refl
+bit-pos false h = absurd (not-suc-le-zero h)
+
+pub bit-zero : (b : Bool) → bit b ≤ 0 → b ≡ false
+bit-zero true h = absurd (not-suc-le-zero h)
+bit-zero false h = refl
+
 -- ---- sums
 
 pub sum-same : (f g : ℕ → ℕ) (n : ℕ) → ((u : ℕ) → u < n → f u ≡ g u) → sumTo f n ≡ sumTo g n

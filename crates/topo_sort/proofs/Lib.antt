@@ -1,0 +1,5 @@
+pub mod Countings
+pub mod Starts
+pub mod Downs
+pub mod Visits
+pub mod Flipped

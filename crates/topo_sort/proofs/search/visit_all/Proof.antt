@@ -1,0 +1,26 @@
+use borrow.Author.Needs.{needs}
+use mathlib.Core.Path.{_≡_}
+use lib.ListN.{length}
+use Rattle.topo_sort.specs.Searching.{Live, leftOf}
+use Rattle.topo_sort.proofs.Visits.{visits}
+use Rattle.topo_sort.proofs.search.visit_all.Statement.{statement}
+use Rattle.topo_sort.proofs.search.visit_all.Tie as tie
+
+abbrev Inv-loop : tie.InvT-loop
+Inv-loop from to₀ c sp top₀ pos₀ to top pos = (length to ≡ length to₀) × Live from to c top pos
+
+abbrev μ-loop : tie.MeasureT-loop
+μ-loop from to₀ c sp top₀ pos₀ to top pos = leftOf from to c top
+
+pub visit-all-spec : {M : Type 1} → statement M
+visit-all-spec =
+    tie.close
+    (tie.spec
+    Inv-loop
+    μ-loop
+    (λ c. search (needs, visits))
+    (λ c κs. search (needs, visits))
+    (λ c. search (needs, visits))
+    (λ c. search (needs, visits))
+    (λ c. search (needs, visits))
+    (λ c. search (needs, visits)))

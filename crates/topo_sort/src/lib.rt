@@ -1,0 +1,52 @@
+// network.rs, topo_sort: `from` is read, `to` is written, and has the order, the mapping, counts, marks and the stack in the tables
+// behind its network.
+ghost use mathlib.Core.Path.{_≡_};
+ghost use Prim.Native.Nat.{ℕ, _≤_};
+ghost use lib.ListN.{length};
+ghost use Rattle.topo_sort.specs.Sorts.{Sortable, Ordering, Sorted};
+use crate::count::count_deps;
+use crate::order::put_flip_flops;
+use crate::search::start;
+use crate::search::visit_all;
+use remap::remap;
+use tables::counts::Counts;
+
+pub mod count;
+pub mod order;
+pub mod search;
+
+// Whether there is an order: not where there is a combinational loop.
+pub enum Sorting {
+    Ordered,
+    Looped,
+}
+
+// The order: flip-flops first as they were, then the gates, the last visited first.
+fn topo_order(from: &[u32], to: &mut [u32], c: Counts) -> Sorting
+    requires { ⌜ Sortable (now from) (now to) c ⌝ }
+    ensures { λ r. ⌜ Ordering (now (from .entry)) (now (to .exit)) c r ⌝ }
+{
+    count_deps(from, to, c);
+    let sp = start(from, to, c);
+    let pos = visit_all(from, to, c, sp);
+    let end = put_flip_flops(from, to, c, pos);
+    if 0 < end {
+        return Sorting::Looped;
+    }
+    Sorting::Ordered
+}
+
+// The sorted network, with the mapping in its table; or a combinational loop.
+pub fn topo_sort(from: &[u32], to: &mut [u32], c: Counts) -> Sorting
+    requires { ⌜ Sortable (now from) (now to) c ⌝ }
+    ensures { λ r. ⌜ Sorted (now (from .entry)) (now (to .exit)) c r ⌝ }
+{
+    let r = topo_order(from, to, c);
+    match r {
+        Sorting::Looped => Sorting::Looped,
+        Sorting::Ordered => {
+            remap(from, to, c, c.nodes);
+            Sorting::Ordered
+        }
+    }
+}
