@@ -1,24 +1,16 @@
 -- What the program's tests tell.
 use mathlib.Core.Path.{_≡_, sym, _∙_}
-use Prim.Native.Nat.{ℕ, _+_, _-_, _/_, _≤_, _<_}
+use Prim.Native.Nat.{ℕ, _+_, _-_, _≤_, _<_}
 use native.Mathlib.Omega.{arith}
-use mathlib.Core.Logic.{_≢_}
 use mathlib.Core.Bool.{Bool, true, false, not}
 use mathlib.Core.List.{List}
 use lib.ListN.{length, take, drop, length-take, length-drop}
 use mir.Val.{Fits}
 use mir.Syntax.{w64}
-use lib.Dec.{eqb, ltb}
-use borrow.Author.Tests.{ltb-false, eqb-false, not-true, not-false}
+use borrow.Author.Tests.{not-false}
 use Rattle.kinds.specs.declared.Kind.{Kind}
 use Rattle.model.specs.Gate.{fitsKind}
-use Rattle.model.specs.Signal.{isInput, isConstant}
-
-pub input-high : (s : ℕ) (t : Bool) → t ≡ isInput s → t ≡ true → 2147483648 ≤ s
-input-high s t e h = ltb-false s 2147483648 (not-true _ (sym e ∙ h))
-
-pub some-low : (s : ℕ) (t : Bool) → t ≡ isConstant s → t ≡ false → 2 ≤ s
-some-low s t e h = let d : s / 2 ≢ 0 = eqb-false (s / 2) 0 (sym e ∙ h) in omega arith
+use Rattle.signal.proofs.Masks.{input-high, some-low}
 
 pub fits-true : (k : Kind) (n : ℕ) (t : Bool) → t ≡ fitsKind k n → not t ≡ false → fitsKind k n ≡ true
 fits-true k n t e h = sym e ∙ not-false t h
