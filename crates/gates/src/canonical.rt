@@ -1,4 +1,4 @@
-// The whole: make_canonical of a gate by its kind.
+// The whole gate: make_canonical and is_canonical, by kind.
 ghost use mathlib.Core.Path.{_≡_};
 ghost use mathlib.Core.List.{map};
 ghost use Prim.Native.Nat.{ℕ, _≤_};

@@ -1,5 +1,6 @@
 -- Masks and shifts of a word, as the model says them.
 use mathlib.Core.Path.{_≡_, sym, _∙_}
+use mathlib.Core.Logic.{_≢_}
 use Prim.Native.Nat.{ℕ, _+_, _-_, _*_, _/_, _%_, _≤_, _<_}
 use native.Mathlib.Omega.{arith}
 use native.Mathlib.Decide.{ℕ-discrete, decLt}
@@ -9,9 +10,9 @@ use lib.ListN.{length, getD, List·getD-eq-default}
 use lib.Dec.{eqb}
 use lib.Bits.{bitAnd, bitXor, and-mask, and-high, xor-step, xor-zero-r, differ}
 use mir.Val.{boolByte}
-use borrow.Author.Tests.{eq-eqb, ne-eqb, lt-ltb, le-ltb, not-true, not-false}
+use borrow.Author.Tests.{eq-eqb, ne-eqb, lt-ltb, le-ltb, ltb-false, eqb-false, not-true, not-false}
 use Rattle.laws.proofs.Bools.{true-false, taut1}
-use Rattle.model.specs.Signal.{isInverted, flip, neg, withoutInversion, isInput, isVar}
+use Rattle.model.specs.Signal.{isInverted, flip, neg, withoutInversion, isInput, isVar, isConstant}
 use Rattle.model.proofs.Words.{plain-is, neg-odd, neg-even, flip-false, remap-constant, remap-input, remap-var}
 use Rattle.signal.specs.Signals.{remapped}
 
@@ -71,6 +72,13 @@ is-var s e = elim (ℕ-discrete (s / 2) 0) [
     | no l ↦ true-false (sym e ∙ rw (le-ltb s 2147483648 (omega arith)))
   ]
 ]
+
+-- what `is_input` and `is_constant` tell
+pub input-high : (s : ℕ) (t : Bool) → t ≡ isInput s → t ≡ true → 2147483648 ≤ s
+input-high s t e h = ltb-false s 2147483648 (not-true _ (sym e ∙ h))
+
+pub some-low : (s : ℕ) (t : Bool) → t ≡ isConstant s → t ≡ false → 2 ≤ s
+some-low s t e h = let d : s / 2 ≢ 0 = eqb-false (s / 2) 0 (sym e ∙ h) in omega arith
 
 -- what `is_var` tells
 module _ (s : ℕ) (t : Bool) (e : t ≡ isVar s) where

@@ -1,0 +1,25 @@
+use borrow.Author.Needs.{needs}
+use Rattle.normal_forms.proofs.Facts.{facts}
+use Rattle.normal_forms.proofs.text.put_signal.Statement.{statement}
+use Rattle.normal_forms.proofs.text.put_signal.Tie as tie
+
+pub put-signal-spec : {M : Type 1} → statement M
+put-signal-spec =
+    tie.close
+    (tie.spec
+    (λ c κs. search needs)
+    (λ c κs. search needs)
+    (λ c κs. search needs)
+    (λ c. search needs)
+    (λ c. search needs)
+    (λ c κs. search needs)
+    (λ c κs. search needs)
+    (λ c κs. search needs)
+    (λ c κs. search (needs, facts))
+    (λ c κs. search needs)
+    (λ c. search needs)
+    (λ c. search needs)
+    (λ c κs. search (needs, facts))
+    (λ c κs. search needs)
+    (λ c. search needs)
+    (λ c. search needs))
