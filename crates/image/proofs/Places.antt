@@ -24,11 +24,11 @@ use Rattle.image.proofs.Fits.{size-is}
 
 -- ---- what an answer of `check` says
 
-refused-number : (r n : ℕ) (f : Frame) → answer r f ≡ Refused n → r ≢ 0
+pub refused-number : (r n : ℕ) (f : Frame) → answer r f ≡ Refused n → r ≢ 0
 refused-number zero n f e = let z : _≡_ {A = ℕ} 0 1 = cc in absurd (omega arith)
 refused-number (suc r) n f e = λ q. omega arith
 
-sound-number : (r : ℕ) (g f : Frame) → answer r g ≡ Sound f → (r ≡ 0) × (f ≡ g)
+pub sound-number : (r : ℕ) (g f : Frame) → answer r g ≡ Sound f → (r ≡ 0) × (f ≡ g)
 sound-number zero g f e = (refl, cc)
 sound-number (suc r) g f e = let z : _≡_ {A = ℕ} 0 1 = cc in absurd (omega arith)
 
