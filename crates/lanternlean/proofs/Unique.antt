@@ -24,12 +24,12 @@ module _ (o : Outcome) (out a b : List ℕ) (r s : Answer) (out′ a′ b′ out
 
   -- with a mapping, or a state
   pub unique2 : (second second′ second″ : List ℕ) → Kept2 o out second a b r out′ second′ a′ b′ → Kept2 o out second a b s out″ second″ a″ b″
-    → Same r out′ a′ b′ s out″ a″ b″ × (second′ ≡ second″)
+      → Same r out′ a′ b′ s out″ a″ b″ × (second′ ≡ second″)
   unique2 second second′ second″ K L = (unique (K .first) (L .first), K .second-is ∙ sym (L .second-is))
 
 -- ---- each entry
 
 module _ (img out a b : List ℕ) (r s : Answer) (out′ a′ b′ out″ a″ b″ : List ℕ) where
   pub unique-read : Kept (readOutcome img out a b) out a b r out′ a′ b′ → Kept (readOutcome img out a b) out a b s out″ a″ b″
-    → Same r out′ a′ b′ s out″ a″ b″
+      → Same r out′ a′ b′ s out″ a″ b″
   unique-read = unique (readOutcome img out a b) out a b r s out′ a′ b′ out″ a″ b″

@@ -1,3 +1,3 @@
 pub mod Walks
-pub mod Bodies
 pub mod Loads
+pub mod Accepting

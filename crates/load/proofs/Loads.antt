@@ -7,14 +7,15 @@ use Prim.Native.Nat.{ℕ, zero, suc, _+_, _-_, _*_, _/_, _%_, _^_, _≤_, _<_}
 use native.Mathlib.Omega.{arith}
 use native.Mathlib.Numerals.{add-one}
 use lib.ListN.{length, getD, take, drop, length-drop}
-use lib.Seq.{getD-drop}
+use lib.Seq.{getD-drop, length-take-le}
 use lib.Dec.{eqb}
 use borrow.Author.Tests.{eq-eqb, ne-eqb}
 use Rattle.laws.specs.Lists.{tab}
 use Rattle.laws.proofs.Tabs.{take-tab, tab-ext}
 use Rattle.model.specs.Gate.{Gate, Net, Valid, isLut, fanin}
-use Rattle.model.specs.Image.{words, codeAt, countAt, extra, sizeAt, tableAt, recordGate, gatesFrom, endFrom, netIn, bodyRefusal}
+use Rattle.model.specs.Image.{words, codeAt, countAt, extra, sizeAt, tableAt, recordGate, gatesFrom, endFrom, netIn}
 use Rattle.model.proofs.Bytes.{length-words}
+use Rattle.shape.proofs.Walks.{count-lt-size, end-last, length-gates}
 use Rattle.tables.specs.Layout.{netSize, nodesOf, outputsOf, putGate, putTable}
 use Rattle.tables.specs.Building.{putInputs, putNode, putOutputs, Packed}
 use Rattle.tables.specs.Holding.{Holds}
@@ -22,10 +23,9 @@ use Rattle.tables.specs.declared.counts.Counts.{Counts}
 use Rattle.tables.proofs.Gates.{gate≡}
 use Rattle.tables.proofs.Building.{nodesOf-none, packed-none, nodesOf-putNode, packed-putNode, outputsOf-putOutputs, nodesOf-putOutputs, packed-putOutputs}
 use Rattle.tables.proofs.Holding.{holds}
-use Rattle.load.specs.declared.Place.{Place}
+use Rattle.load.specs.declared.body.Place.{Place}
 use Rattle.load.specs.Loading.{wordFrom, lowIn, highIn, putRecord, Copies, Headed, Tabled, Fits, Placed, Records, Loading, Nodes, Outputs, Loadable}
-use Rattle.load.proofs.Walks.{end-le, end-next, gates-next, record-inside, record-room, count-lt-size, fanin-loaded}
-use Rattle.load.proofs.Bodies.{Body, body-accepted, valid-body}
+use Rattle.load.proofs.Walks.{gates-next, record-inside, record-room, fanin-loaded}
 
 -- the words of a part, one by one
 pub tab-words : (ws : List ℕ) (at n : ℕ) → at + n ≤ length ws → tab (wordFrom ws at) n ≡ take n (drop at ws)
@@ -143,7 +143,7 @@ module _ (b l₀ : List ℕ) (n : ℕ) (R : Records b l₀ n) (l : List ℕ) (v 
         record {
           packed = rw (add-one v, D .area, D .free) P;
           nodes = rw add-one g;
-          next = rw add-one (D .next ∙ rw e (sym (end-next v ws)));
+          next = rw add-one (D .next ∙ rw e (sym (end-last v ws 0)));
           free = rw add-one (D .free ∙ rw (L .free, e) (sym (fanin-loaded v ws (rw (← e) within))));
         }
 
@@ -153,26 +153,35 @@ module _ (b l₀ : List ℕ) (n : ℕ) (R : Records b l₀ n) (l : List ℕ) (v 
       let q : p .first ≡ fanin (gatesFrom n (words b) 0) = rw (← e) (L .free) in
       record { packed = rw (← q, ← e) (L .packed); nodes = rw (← e) (L .nodes); end = rw (← e) (L .next) }
 
--- ---- load
+-- ---- load_body
 
 module _ (b l : List ℕ) (c : Counts) (A : Loadable b l c) where
-  body : Body (c .inputs) (c .nodes) (c .outs) (words b)
-  body = body-accepted (c .inputs) (c .nodes) (c .outs) (words b) (A .accepted)
+  nodes-few : c .nodes ≤ 512
+  unfolding netIn
+  nodes-few = omega (arith, A .valid .nodes-few, length-gates (c .nodes) (words b) 0)
+
+  length-outs : length (take (c .outs) (drop (endFrom (c .nodes) (words b) 0) (words b))) ≡ c .outs
+  length-outs = length-take-le (c .outs) (drop (endFrom (c .nodes) (words b) 0) (words b)) (rw length-drop (omega (arith, A .ends)))
+
+  outs-few : c .outs ≤ 64
+  unfolding netIn
+  outs-few = omega (arith, A .valid .outs-few, length-outs)
 
   pub load-records : Records b l (c .nodes)
+  unfolding netIn
   load-records = record {
     long = A .long;
-    few = A .nodes-few;
-    inside = omega (arith, body .ends, length-words b);
-    room = body .few;
+    few = nodes-few;
+    inside = omega (arith, A .ends, length-words b);
+    room = A .valid .ins-few;
   }
 
   module _ (l1 : List ℕ) (end : ℕ) (N : Nodes b l1 (c .nodes) end) where
     outs-inside : end + c .outs ≤ length (words b)
-    outs-inside = omega (arith, N .end, body .ends)
+    outs-inside = omega (arith, N .end, A .ends)
 
     pub load-outputs : Outputs b end l1 (c .outs)
-    load-outputs = record { long = N .packed .long; few = A .outs-few; inside = omega (arith, outs-inside, length-words b) }
+    load-outputs = record { long = N .packed .long; few = outs-few; inside = omega (arith, outs-inside, length-words b) }
 
     pub load-holds : (l2 : List ℕ) → l2 ≡ putOutputs l1 (wordFrom (words b) end) (c .outs)
         → Holds l2 c (netIn (c .inputs) (c .nodes) (c .outs) (words b))
@@ -182,9 +191,9 @@ module _ (b l : List ℕ) (c : Counts) (A : Loadable b l c) where
         let P = packed-putOutputs l1 (wordFrom ws end) (c .nodes) (fanin (gatesFrom (c .nodes) ws 0)) (N .packed) (c .outs) in
         rw e
         (holds (putOutputs l1 (wordFrom ws end) (c .outs)) c (netIn (c .inputs) (c .nodes) (c .outs) ws) (fanin (gatesFrom (c .nodes) ws 0)) P
-        (valid-body (c .inputs) (c .nodes) (c .outs) ws (A .inputs-few) (A .nodes-few) (A .outs-few) body)
+        (A .valid)
         refl
         (nodesOf-putOutputs l1 (wordFrom ws end) (c .nodes) (fanin (gatesFrom (c .nodes) ws 0)) (N .packed) (c .outs) ∙ N .nodes)
-        (outputsOf-putOutputs l1 (wordFrom ws end) (c .outs) (A .outs-few) (N .packed .long) ∙ tab-words ws end (c .outs) outs-inside ∙ rw (N .end)))
+        (outputsOf-putOutputs l1 (wordFrom ws end) (c .outs) outs-few (N .packed .long) ∙ tab-words ws end (c .outs) outs-inside ∙ rw (N .end)))
 
 pub ruleset loads = (table-none, low-inside, high-inside, table-some, gate-inside, gate-headed, gate-copies, gate-placed, loading-none, loading-fits, loading-next, loading-end, load-records, load-outputs, load-holds)

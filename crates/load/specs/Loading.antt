@@ -4,12 +4,12 @@ use Prim.Native.Nat.{ℕ, _+_, _/_, _≤_, _<_}
 use mathlib.Core.Bool.{cond}
 use mathlib.Core.List.{List}
 use lib.ListN.{length, getD}
-use Rattle.model.specs.Gate.{isLut, fanin}
-use Rattle.model.specs.Image.{words, codeAt, countAt, extra, sizeAt, gatesFrom, endFrom, bodyRefusal}
+use Rattle.model.specs.Gate.{Valid, isLut, fanin}
+use Rattle.model.specs.Image.{words, codeAt, countAt, extra, sizeAt, gatesFrom, endFrom, netIn}
 use Rattle.tables.specs.Layout.{netSize, nodesOf, putTable}
 use Rattle.tables.specs.Building.{putNode, Packed}
 use Rattle.tables.specs.declared.counts.Counts.{Counts}
-use Rattle.load.specs.declared.Place.{Place}
+use Rattle.load.specs.declared.body.Place.{Place}
 
 -- the words from `at` on
 unfoldable pub wordFrom : List ℕ → ℕ → ℕ → ℕ
@@ -83,7 +83,5 @@ pub record Outputs (b : List ℕ) (at : ℕ) (l : List ℕ) (m : ℕ) : Type 0 w
 -- what acceptance says of a body and its counts
 pub record Loadable (b l : List ℕ) (c : Counts) : Type 0 where
   pub long : netSize ≤ length l
-  pub inputs-few : c .inputs ≤ 1024
-  pub nodes-few : c .nodes ≤ 512
-  pub outs-few : c .outs ≤ 64
-  pub accepted : bodyRefusal (c .inputs) (c .nodes) (c .outs) (words b) ≡ 0
+  pub ends : endFrom (c .nodes) (words b) 0 + (c .outs + 4) ≡ length (words b)
+  pub valid : Valid (netIn (c .inputs) (c .nodes) (c .outs) (words b))

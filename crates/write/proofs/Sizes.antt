@@ -12,6 +12,7 @@ use borrow.Author.Tests.{eq-eqb, ne-eqb}
 use Rattle.model.specs.Gate.{Gate, isLut, fanin, size}
 use Rattle.model.specs.Image.{tableWords, gateWords, gatesWords, bodyWords, netWords, imageOf, bytes}
 use Rattle.model.proofs.Bytes.{length-bytes}
+use Rattle.shape.proofs.Sizes.{gates-length}
 use Rattle.tables.specs.Layout.{kindAt, countAt, lowAt, highAt, insAt, gateAt, nodesOf, outputsOf, netOf}
 use Rattle.tables.specs.Holding.{networkOf, Held}
 use Rattle.tables.specs.declared.counts.Counts.{Counts}
@@ -44,14 +45,6 @@ module _ (l : List ℕ) (v : ℕ) where
   pub length-record : length (gateWords (gateAt l v)) ≡ 1 + countAt l v + length (tableWords (gateAt l v))
   length-record = ap length record-words ∙ rw length-append (omega (arith, length-insAt l v))
 
-pub record-few : (g : Gate) → length (gateWords g) ≤ 3 + length (g .ins)
-unfolding gateWords tableWords
-record-few g = rw length-append (go (isLut (g .kind)))
-  where
-    go : (t : Bool) → suc (length (g .ins) + length (cond t ((g .table % 4294967296) ∷ (g .table / 4294967296) ∷ []) [])) ≤ 3 + length (g .ins)
-    go true = omega arith
-    go false = omega arith
-
 -- ---- all of them
 
 pub gatesWords-append : (gs hs : List Gate) → gatesWords (gs ++ hs) ≡ gatesWords gs ++ gatesWords hs
@@ -62,11 +55,6 @@ gatesWords-append (g ∷ gs) hs = rw (gatesWords-append gs hs) (sym (append-asso
 pub gatesWords-one : (g : Gate) → gatesWords (g ∷ []) ≡ gateWords g
 unfolding gatesWords
 gatesWords-one g = append-nil (gateWords g)
-
-pub gatesWords-few : (gs : List Gate) → length (gatesWords gs) ≤ fanin gs + 3 * length gs
-unfolding gatesWords fanin
-gatesWords-few [] = omega arith
-gatesWords-few (g ∷ gs) = rw length-append (omega (arith, record-few g, gatesWords-few gs))
 
 module _ (l : List ℕ) where
   pub words-none : gatesWords (nodesOf l 0) ≡ []
@@ -97,5 +85,5 @@ module _ (l : List ℕ) (c : Counts) where
   pub words-few : Held l c → (v : ℕ) → v ≤ c .nodes → length (gatesWords (nodesOf l v)) ≤ 3584
   words-few H v h =
       let all : length (gatesWords (nodesOf l (c .nodes))) ≤ 3584 =
-      omega (arith, gatesWords-few (nodesOf l (c .nodes)), total-few l c H, nodes-few l c H, length-nodesOf l (c .nodes)) in
+      omega (arith, gates-length (nodesOf l (c .nodes)), total-few l c H, nodes-few l c H, length-nodesOf l (c .nodes)) in
       elim (ℕ-discrete v (c .nodes)) [ yes e ↦ rw e all | no e ↦ omega (arith, all, length-within l v (c .nodes) (omega arith)) ]

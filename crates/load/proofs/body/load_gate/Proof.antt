@@ -1,7 +1,7 @@
 use Rattle.load.proofs.Loads.{loads}
 use borrow.Author.Needs.{needs}
-use Rattle.load.proofs.load_gate.Statement.{statement}
-use Rattle.load.proofs.load_gate.Tie as tie
+use Rattle.load.proofs.body.load_gate.Statement.{statement}
+use Rattle.load.proofs.body.load_gate.Tie as tie
 
 pub load-gate-spec : {M : Type 1} → statement M
 load-gate-spec =

@@ -1,7 +1,7 @@
 use Rattle.load.proofs.Loads.{loads}
 use borrow.Author.Needs.{needs}
-use Rattle.load.proofs.load_table.Statement.{statement}
-use Rattle.load.proofs.load_table.Tie as tie
+use Rattle.load.proofs.body.load_table.Statement.{statement}
+use Rattle.load.proofs.body.load_table.Tie as tie
 
 pub load-table-spec : {M : Type 1} → statement M
 load-table-spec =

@@ -4,8 +4,8 @@ use lib.ListN.{length}
 use Prim.Native.Nat.{_≤_, _-_}
 use Rattle.load.specs.Loading.{Loading}
 use Rattle.load.proofs.Loads.{loads}
-use Rattle.load.proofs.load_nodes.Statement.{statement}
-use Rattle.load.proofs.load_nodes.Tie as tie
+use Rattle.load.proofs.body.load_nodes.Statement.{statement}
+use Rattle.load.proofs.body.load_nodes.Tie as tie
 
 abbrev Inv-loop : tie.InvT-loop
 Inv-loop body to₀ nodes p₀ v₀ to p v = (v ≤ nodes) × (length to ≡ length to₀) × Loading body to v p

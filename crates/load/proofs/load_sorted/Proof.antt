@@ -1,0 +1,16 @@
+use Rattle.load.proofs.Accepting.{accepts}
+use borrow.Author.Needs.{needs}
+use Rattle.load.proofs.load_sorted.Statement.{statement}
+use Rattle.load.proofs.load_sorted.Tie as tie
+
+pub load-sorted-spec : {M : Type 1} → statement M
+load-sorted-spec =
+    tie.close
+    (tie.spec
+    (λ c κs. search needs)
+    (λ c. search needs)
+    (λ c. search needs)
+    (λ c κs. search (needs, accepts))
+    (λ c. search (needs, accepts))
+    (λ c. search needs)
+    (λ c. search (needs, accepts)))
