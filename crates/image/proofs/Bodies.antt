@@ -9,7 +9,7 @@ use lib.Dec.{eqb}
 use borrow.Author.Tests.{lt-leb, le-leb, eq-eqb, ne-eqb, eqb-true, eqb-false, not-true, not-false}
 use Rattle.laws.proofs.Bools.{and-right}
 use Rattle.laws.proofs.Choices.{by-bool}
-use Rattle.model.specs.Gate.{fanin, gatesNamed, allNamed, sortedFrom, wired, isTopoSorted}
+use Rattle.model.specs.Gate.{fanin, wired, isTopoSorted}
 use Rattle.model.specs.Image.{words, soundFrom, endFrom, gatesFrom, netIn, laid}
 use Rattle.model.proofs.Bytes.{length-words}
 use Rattle.shape.proofs.Walks.{length-gates}

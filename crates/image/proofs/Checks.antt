@@ -2,14 +2,14 @@
 use mathlib.Core.Path.{_≡_, refl, sym, ap, _∙_}
 use mathlib.Core.Logic.{_≢_}
 use mathlib.Core.List.{List}
-use mathlib.Core.Bool.{Bool, true, false, not, cond, _&&_}
+use mathlib.Core.Bool.{Bool, true, false, not, cond}
 use Prim.Native.Nat.{ℕ, zero, suc, _-_, _≤_}
 use native.Mathlib.Omega.{arith}
 use lib.ListN.{length, take, drop, length-drop}
 use lib.Seq.{take-all}
 use lib.Dec.{leb, eqb}
 use Rattle.model.specs.Gate.{fanin, wired, isTopoSorted}
-use Rattle.model.specs.Image.{words, inputsIn, nodesIn, outsIn, spanIn, bodyOf, wordsOf, netIn, netOf, framed, within, laid, bodyRefusal, refusalOf, sortedRefusalOf}
+use Rattle.model.specs.Image.{words, inputsIn, nodesIn, outsIn, bodyOf, wordsOf, netIn, netOf, framed, within, laid, bodyRefusal, refusalOf, sortedRefusalOf}
 use Rattle.shape.proofs.Accepted.{within-is}
 use Rattle.image.specs.Reader.{bodyNumber, imageNumber, frameOf, framedOf, answer, numberedOf, checkedOf, sortedCheckedOf}
 use Rattle.image.specs.declared.Frame.{Frame}

@@ -3,9 +3,9 @@ use mathlib.Core.Path.{_≡_, refl, sym, ap, _∙_}
 use mathlib.Core.Logic.{_≢_, ⊎-elim}
 use mathlib.Core.List.{List}
 use mathlib.Core.Bool.{Bool, true, false, cond, _&&_, and-false}
-use Prim.Native.Nat.{ℕ, zero, suc, _+_, _-_, _*_, _/_, _^_, _≤_, _<_}
+use Prim.Native.Nat.{ℕ, zero, suc, _+_, _-_, _/_, _^_, _≤_, _<_}
 use native.Mathlib.Omega.{arith}
-use native.Mathlib.Nat.{add-assoc, add-zero}
+use native.Mathlib.Nat.{add-assoc, add-zero, sub-zero}
 use native.Mathlib.Numerals.{sub-one}
 use lib.ListN.{length, getD}
 use lib.Dec.{leb}
@@ -14,7 +14,7 @@ use mir.Val.{Fits}
 use mir.Syntax.{w64}
 use Rattle.laws.proofs.Bools.{and-left, and-right, and-split}
 use Rattle.model.specs.Gate.{fanin}
-use Rattle.model.specs.Image.{words, countAt, sizeAt, recordGate, soundAt, soundFrom, endFrom, gatesFrom}
+use Rattle.model.specs.Image.{words, sizeAt, recordGate, soundAt, soundFrom, endFrom, gatesFrom}
 use Rattle.model.proofs.Bytes.{length-words}
 use Rattle.shape.proofs.Walks.{size-pos, count-lt-size, end-le, ins-length}
 use Rattle.image.specs.Reader.{sizeOf, fitAt, laidFrom}
@@ -117,44 +117,42 @@ module _ (b : List ℕ) (at lim s : ℕ) (e : s ≡ fitAt (words b) at lim) (z :
 
 pub ruleset layouts = (done-laid, off-laid, broken-laid, step-laid, ends-fit, inside-fit, count-fit, fits-at, fits-ins)
 
--- ---- where a walk ends, and what that says of the record at hand
+-- ---- a walk that counts up to n, at record v: where it ends, and what that says of the record at hand
+
+end-step : (j : ℕ) (ws : List ℕ) (at h s : ℕ) → h ≡ getD ws at 0 → s ≡ sizeOf h → endFrom (suc j) ws at ≡ endFrom j ws (at + s)
+unfolding endFrom
+end-step j ws at h s e z = simp (z, ← size-is ws at h e)
+
+end-done : (ws : List ℕ) (at : ℕ) → endFrom 0 ws at ≡ at
+unfolding endFrom
+end-done ws at = refl
 
 -- a record has its header and its inputs
-pub size-covers : (h : ℕ) → h / 256 < sizeOf h
+size-covers : (h : ℕ) → h / 256 < sizeOf h
 unfolding sizeOf
 size-covers h = omega arith
 
--- the equation with m is an invariant's
-module _ (b : List ℕ) (k at m : ℕ) (i : endFrom k (words b) at ≡ m) where
-  -- no records are left: the walk is there
-  pub walk-here : k ≤ 0 → at ≡ m
-  unfolding endFrom
-  walk-here z = go k i (omega arith)
-    where
-      go : (k : ℕ) → endFrom k (words b) at ≡ m → k ≡ 0 → at ≡ m
-      go zero i z = i
-      go (suc k) i z = absurd (omega arith)
+pub walk-start : (b : List ℕ) (n : ℕ) → endFrom (n - 0) (words b) 0 ≡ endFrom n (words b) 0
+walk-start b n = ap (λ (k : ℕ). endFrom k (words b) 0) (sub-zero n)
 
-  module _ (p : 0 < k) where
-    pub walk-inside : m ≤ length b / 4 → at < length b / 4
-    unfolding endFrom
-    walk-inside l = go k i p
-      where
-        go : (k : ℕ) → endFrom k (words b) at ≡ m → 0 < k → at < length b / 4
-        go zero i p = absurd (omega arith)
-        go (suc k) i p = omega (arith, end-le k (words b) (at + sizeAt (words b) at), size-pos (words b) at)
+-- the equation with m is an invariant's
+module _ (b : List ℕ) (n v at m : ℕ) (inv : endFrom (n - v) (words b) at ≡ m) where
+  pub walk-here : n ≤ v → at ≡ m
+  walk-here l =
+      let z : n - v ≡ 0 = omega arith in
+      sym (end-done (words b) at) ∙ ap (λ (k : ℕ). endFrom k (words b) at) (sym z) ∙ inv
+
+  module _ (p : v < n) where
+    left : n - v ≡ suc (n - (v + 1))
+    left = omega arith
 
     module _ (h : ℕ) (e : h ≡ getD (words b) at 0) where
-      pub walk-step : (s : ℕ) → s ≡ sizeOf h → endFrom (k - 1) (words b) (at + s) ≡ m
-      unfolding endFrom
-      walk-step s z = go k i p
-        where
-          go : (k : ℕ) → endFrom k (words b) at ≡ m → 0 < k → endFrom (k - 1) (words b) (at + s) ≡ m
-          go zero i p = absurd (omega arith)
-          go (suc k) i p = simp (z, ← size-is (words b) at h e, sub-one) i
+      pub walk-step : (s : ℕ) → s ≡ sizeOf h → endFrom (n - (v + 1)) (words b) (at + s) ≡ m
+      walk-step s z =
+          sym (end-step (n - (v + 1)) (words b) at h s e z) ∙ ap (λ (k : ℕ). endFrom k (words b) at) (sym left) ∙ inv
 
       covers : at + sizeOf h ≤ m
-      covers = omega (arith, walk-step (sizeOf h) refl, end-le (k - 1) (words b) (at + sizeOf h))
+      covers = omega (arith, walk-step (sizeOf h) refl, end-le (n - (v + 1)) (words b) (at + sizeOf h))
 
       module _ (l : m ≤ length b / 4) where
         pub walk-ins : at + 1 + h / 256 ≤ length b / 4
@@ -166,4 +164,7 @@ module _ (b : List ℕ) (k at m : ℕ) (i : endFrom k (words b) at ≡ m) where
         pub walk-fits : (s : ℕ) → s ≡ sizeOf h → length b < 2 ^ 64 → Fits w64 (at + s)
         walk-fits s z w = record { fits = omega (arith, covers) }
 
-pub ruleset walks = (walk-here, walk-inside, walk-step, walk-ins, walk-next, walk-fits)
+    pub walk-inside : m ≤ length b / 4 → at < length b / 4
+    walk-inside l = omega (arith, covers (getD (words b) at 0) refl, size-covers (getD (words b) at 0))
+
+pub ruleset walks = (walk-start, walk-here, walk-inside, walk-step, walk-ins, walk-next, walk-fits)

@@ -1,8 +1,8 @@
 -- Laws of the place of record k.
 use mathlib.Core.Path.{_≡_, refl, sym, ap, _∙_}
 use mathlib.Core.Logic.{_≢_}
-use mathlib.Core.List.{List, []}
-use mathlib.Core.Bool.{Bool, true, false, and-false}
+use mathlib.Core.List.{List}
+use mathlib.Core.Bool.{false, and-false}
 use Prim.Native.Nat.{ℕ, zero, suc, _+_, _-_, _*_, _/_, _^_, _≤_, _<_}
 use native.Mathlib.Omega.{arith}
 use lib.ListN.{length, getD, take, drop, length-drop}

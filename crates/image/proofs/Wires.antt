@@ -1,26 +1,23 @@
 -- Laws of the walk over the signals: one signal, the signals of a gate, the records.
-use mathlib.Core.Path.{_≡_, refl, sym, ap, ap₂, _∙_}
+use mathlib.Core.Path.{_≡_, refl, sym, ap, _∙_}
 use mathlib.Core.Logic.{_≢_}
-use mathlib.Core.List.{List, [], _∷_}
+use mathlib.Core.List.{List, _∷_}
 use mathlib.Core.Bool.{Bool, true, false, not, _&&_, _||_, and-true}
-use Prim.Native.Nat.{ℕ, zero, suc, _+_, _-_, _/_, _%_, _^_, _≤_, _<_}
+use Prim.Native.Nat.{ℕ, zero, suc, _+_, _-_, _/_, _%_, _≤_, _<_}
 use native.Mathlib.Omega.{arith}
 use native.Mathlib.Nat.{sub-zero}
 use native.Mathlib.Numerals.{sub-one, add-one}
-use native.Mathlib.Decide.{ℕ-discrete, decLt}
 use lib.ListN.{length, getD, take, drop}
 use lib.Seq.{drop-cons}
-use lib.Dec.{eqb, ltb}
-use borrow.Author.Tests.{ltb-true, ltb-false, lt-ltb, le-ltb, eqb-true, eqb-false, not-true, not-false}
-use mir.Val.{Fits}
-use mir.Syntax.{w64}
-use Rattle.laws.proofs.Bools.{and-left, and-right, and-split, and-assoc}
+use lib.Dec.{ltb}
+use borrow.Author.Tests.{ltb-true, ltb-false, eqb-true, eqb-false, not-true, not-false}
+use Rattle.laws.proofs.Bools.{and-left, and-right, and-assoc}
 use Rattle.laws.proofs.Choices.{by-bool}
 use Rattle.kinds.specs.Kinds.{kindOf, isFlipFlop}
 use Rattle.kinds.specs.declared.Kind.{Kind}
 use Rattle.model.specs.Signal.{rnode, ref, isInput, isConstant, isVar}
-use Rattle.model.specs.Gate.{namedRef, named, allNamed, gatesNamed, belowRef, allBelow, sortedFrom, isDff}
-use Rattle.model.specs.Image.{words, codeAt, countAt, sizeAt, recordGate, gatesFrom, endFrom}
+use Rattle.model.specs.Gate.{namedRef, named, allNamed, gatesNamed, belowRef, allBelow, sortedFrom}
+use Rattle.model.specs.Image.{words, codeAt, countAt, sizeAt, recordGate, gatesFrom}
 use Rattle.model.proofs.Bytes.{length-words}
 use Rattle.model.proofs.Words.{constant-ref, var-ref, input-ref}
 use Rattle.model.proofs.Named.{named-is}
@@ -28,7 +25,6 @@ use Rattle.shape.proofs.Wires.{var-low, var-high, var-names}
 use Rattle.image.specs.Reader.{sizeOf, wiringFrom, gatesWiring}
 use Rattle.image.specs.declared.signals.Wiring.{Wiring}
 use Rattle.image.proofs.Fits.{size-is, count-is}
-use Rattle.image.proofs.Layouts.{walk-inside, walk-step, walk-ins, walk-next, walk-fits}
 
 -- ---- one signal, as the tests of the crate `signal` tell it
 
@@ -123,30 +119,6 @@ pub ruleset lists = (join-start, words-done, words-step)
 
 -- ---- the records from a position on
 
--- the walk at node v of n
-module _ (b : List ℕ) (n v at m : ℕ) (inv : endFrom (n - v) (words b) at ≡ m) (p : v < n) where
-  pub turn-inside : m ≤ length b / 4 → at < length b / 4
-  turn-inside l = walk-inside b (n - v) at m inv (omega arith) l
-
-  module _ (h : ℕ) (e : h ≡ getD (words b) at 0) where
-    pub turn-step : (s : ℕ) → s ≡ sizeOf h → endFrom (n - (v + 1)) (words b) (at + s) ≡ m
-    turn-step s z =
-        let q : n - v - 1 ≡ n - (v + 1) = omega arith in
-        rw q at (walk-step b (n - v) at m inv (omega arith) h e s z)
-
-    module _ (l : m ≤ length b / 4) where
-      pub turn-ins : at + 1 + h / 256 ≤ length b / 4
-      turn-ins = walk-ins b (n - v) at m inv (omega arith) h e l
-
-      pub turn-next : length b < 2 ^ 64 → Fits w64 (at + 1)
-      turn-next w = walk-next b (n - v) at m inv (omega arith) h e l w
-
-      pub turn-fits : (s : ℕ) → s ≡ sizeOf h → length b < 2 ^ 64 → Fits w64 (at + s)
-      turn-fits s z w = walk-fits b (n - v) at m inv (omega arith) h e l s z w
-
-pub turn-start : (b : List ℕ) (n : ℕ) → endFrom (n - 0) (words b) 0 ≡ endFrom n (words b) 0
-turn-start b n = ap (λ (k : ℕ). endFrom k (words b) 0) (sub-zero n)
-
 pub gates-start : (b : List ℕ) (i n : ℕ) → gatesWiring i n 0 n (words b) 0 ≡ joined true true (gatesWiring i n 0 (n - 0) (words b) 0)
 gates-start b i n = join-start (gatesWiring i n 0 n (words b) 0) ∙ ap (λ (k : ℕ). joined true true (gatesWiring i n 0 k (words b) 0)) (sym (sub-zero n))
 
@@ -182,4 +154,4 @@ module _ (b : List ℕ) (i n v : ℕ) (x : Wiring) (a d : Bool) (at : ℕ) (inv 
       ∙ join-join a d (w .named) (f || w .sorted) (gatesWiring i n (suc v) (n - (v + 1)) (words b) (at + s))
       ∙ ap (λ (j : ℕ). joined (a && w .named) (d && (f || w .sorted)) (gatesWiring i n j (n - (v + 1)) (words b) (at + s))) (sym o)
 
-pub ruleset gates = (turn-start, turn-inside, turn-step, turn-ins, turn-next, turn-fits, gates-start, gates-done, gates-step)
+pub ruleset gates = (gates-start, gates-done, gates-step)

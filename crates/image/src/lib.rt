@@ -1,6 +1,6 @@
 // The door: an image's refusals 2 to 7, each exactly when document 01's line says, and the part that holds record k.
 ghost use mathlib.Core.Path.{_≡_};
-ghost use Prim.Native.Nat.{ℕ, _≤_};
+ghost use Prim.Native.Nat.{_≤_};
 ghost use Rattle.model.specs.Image.{words, recordOf, recordAtOf};
 ghost use Rattle.image.specs.Reader.{bodyNumber, framedOf, numberedOf, checkedOf, sortedCheckedOf, placeOf};
 use records::Laid;

@@ -1,6 +1,6 @@
 // One pass over the records of a body: their layout.
 ghost use mathlib.Core.Path.{_≡_};
-ghost use Prim.Native.Nat.{ℕ, suc, _+_, _*_, _/_, _≤_};
+ghost use Prim.Native.Nat.{_+_, _*_, _/_, _≤_};
 ghost use lib.ListN.{length};
 ghost use Rattle.model.specs.Gate.{fitsKind, fitsCode, fitsTable};
 ghost use Rattle.model.specs.Image.{words, headerOk, endFrom};
@@ -137,11 +137,11 @@ pub fn skip(body: &[u8], k: u32) -> usize
     requires { ⌜ endFrom k (words (now body)) 0 ≤ length (now body) / 4 ⌝ }
     ensures { λ r. ⌜ r ≡ endFrom k (words (now (body .entry))) 0 ⌝ }
 {
-    let mut left = k;
+    let mut v: u32 = 0;
     let mut at: usize = 0;
-    while 0 < left {
+    while v < k {
         at += size_of(words::nth(body, at));
-        left -= 1;
+        v += 1;
     }
     at
 }

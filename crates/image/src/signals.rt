@@ -1,6 +1,6 @@
 // One pass over the signals of a body: whether each names something present, and whether the network is sorted.
 ghost use mathlib.Core.Path.{_≡_};
-ghost use Prim.Native.Nat.{ℕ, _+_, _/_, _≤_};
+ghost use Prim.Native.Nat.{_+_, _/_, _≤_};
 ghost use lib.ListN.{length};
 ghost use Rattle.model.specs.Signal.{ref};
 ghost use Rattle.model.specs.Gate.{named, belowRef};

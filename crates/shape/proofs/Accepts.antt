@@ -1,19 +1,19 @@
 -- The image of a valid network is accepted.
-use mathlib.Core.Path.{_≡_, refl, sym, ap, ap₂, _∙_, subst}
+use mathlib.Core.Path.{_≡_, refl, sym, ap, _∙_}
 use mathlib.Core.List.{List, [], _∷_, _++_, append-assoc}
-use mathlib.Core.Bool.{Bool, true, false, _&&_}
-use Prim.Native.Nat.{ℕ, zero, suc, _+_, _*_, _/_, _%_, _≤_, _<_}
+use mathlib.Core.Bool.{true, _&&_}
+use Prim.Native.Nat.{ℕ, suc, _+_, _*_, _≤_, _<_}
 use native.Mathlib.Omega.{arith}
 use native.Mathlib.Nat.{add-zero, zero-add}
 use lib.ListN.{length, length-append}
 use lib.Seq.{drop-append-seam}
 use borrow.Author.Tests.{lt-ltb}
-use Rattle.model.specs.Gate.{Gate, Net, Valid, size, isLut, shaped, allShaped, fanin, wired, isTopoSorted}
-use Rattle.model.specs.Image.{headerOk, codeAt, countAt, sizeAt, soundAt, soundFrom, endFrom, inputsIn, nodesIn, outsIn, spanIn, wordsOf, netOf, refusalOf, sortedRefusalOf, tableWords, gateWords, gatesWords, bodyWords, imageOf}
+use Rattle.model.specs.Gate.{Gate, Net, Valid, size, shaped, allShaped, fanin, isTopoSorted}
+use Rattle.model.specs.Image.{headerOk, codeAt, countAt, sizeAt, soundAt, soundFrom, netOf, refusalOf, sortedRefusalOf, gateWords, gatesWords, imageOf}
 use Rattle.shape.proofs.Walks.{sounds-drop}
 use Rattle.shape.proofs.Shaped.{kind-small, shaped-code, shaped-table, first-shaped, rest-shaped}
 use Rattle.shape.proofs.Written.{header-back, size-back, table-back, end-back, trailer, length-image, inputs-written, nodes-written, outs-written, span-written, words-written, net-of-image}
-use Rattle.shape.proofs.Accepted.{Framed, Within, LaidOut, Accepted, accepts, accepts-sorted}
+use Rattle.shape.proofs.Accepted.{LaidOut, Accepted, accepts, accepts-sorted}
 
 -- ---- the records of gates are sound
 

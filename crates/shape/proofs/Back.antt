@@ -8,7 +8,7 @@ use native.Mathlib.Nat.{add-zero, add-assoc, sub-zero}
 use native.Mathlib.Numerals.{add-one, add-two, add-three, one-add}
 use lib.ListN.{length, getD, take, drop, length-drop, take-append-drop, drop-of-length-le}
 use lib.Seq.{drop-drop, drop-cons, take-add, length-take-le}
-use Rattle.model.specs.Gate.{Gate, Net, size, isLut}
+use Rattle.model.specs.Gate.{isLut}
 use Rattle.model.specs.Image.{Bytes, Words32, words, bytes, wordAt, codeAt, countAt, sizeAt, tableAt, recordGate, gatesFrom, endFrom, nodesIn, outsIn, spanIn, bodyOf, wordsOf, netIn, netOf, refusalOf, tableWords, gateWords, gatesWords, bodyWords, netWords, imageOf}
 use Rattle.model.proofs.Bytes.{bytes-words, length-words, getD-words, wordAt-drop, words-small, bytes-drop}
 use Rattle.shape.proofs.Walks.{ins-length, end-le, length-gates}

@@ -1,22 +1,21 @@
 -- Record k: the part of the image where it lies, and that it is node k's record.
-use mathlib.Core.Path.{_≡_, refl, sym, ap, _∙_}
-use mathlib.Core.List.{List, [], _∷_}
-use mathlib.Core.Bool.{Bool, true, false, _&&_}
-use Prim.Native.Nat.{ℕ, zero, suc, _+_, _-_, _*_, _≤_, _<_}
+use mathlib.Core.Path.{_≡_, sym}
+use mathlib.Core.List.{List, []}
+use mathlib.Core.Bool.{true, false}
+use Prim.Native.Nat.{ℕ, suc, _+_, _-_, _*_, _≤_, _<_}
 use native.Mathlib.Omega.{arith}
-use native.Mathlib.Nat.{add-assoc}
-use lib.ListN.{length, getD, take, drop, length-drop}
+use lib.ListN.{length, take, drop, length-drop}
 use lib.Seq.{drop-drop, length-take-le}
 use lib.Dec.{eqb, ltb}
-use borrow.Author.Tests.{eqb-true, eq-eqb, ne-eqb, ltb-true, lt-ltb}
+use borrow.Author.Tests.{eqb-true, eq-eqb, ltb-true, lt-ltb}
 use Rattle.laws.proofs.Bools.{and-left, and-right, and-both}
 use Rattle.laws.proofs.Choices.{by-bool}
 use Rattle.laws.proofs.Lists.{take-length-take}
 use Rattle.model.specs.Gate.{gateAt, noGate}
 use Rattle.model.specs.Image.{Bytes, words, bytes, sizeAt, recordGate, endFrom, nodesIn, outsIn, spanIn, bodyOf, wordsOf, netIn, netOf, refusalOf, hasRecord, recordIn, recordOf, recordAtOf, gateWords}
-use Rattle.model.proofs.Bytes.{length-words, bytes-words, words-small, bytes-take, bytes-after}
+use Rattle.model.proofs.Bytes.{bytes-words, words-small, bytes-take, bytes-after}
 use Rattle.shape.proofs.Walks.{end-mono, end-last, gates-at}
-use Rattle.shape.proofs.Accepted.{Accepted, accepted}
+use Rattle.shape.proofs.Accepted.{accepted}
 use Rattle.shape.proofs.Back.{gate-forth, length-body, length-wordsOf, bytes-body}
 
 -- ---- where it lies

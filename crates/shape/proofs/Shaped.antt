@@ -1,19 +1,19 @@
 -- What a gate's shape says: its code, its inputs and its table in numbers.
 use mathlib.Core.Path.{_≡_, refl, sym, ap, _∙_}
-use mathlib.Core.Bool.{Bool, true, false, cond, _&&_, false≢true}
+use mathlib.Core.Bool.{true, false, false≢true}
 use mathlib.Core.List.{List, [], _∷_}
-use Prim.Native.Nat.{ℕ, zero, suc, _+_, _*_, _^_, _≤_, _<_}
+use Prim.Native.Nat.{ℕ, zero, suc, _^_, _≤_, _<_}
 use native.Mathlib.Omega.{arith}
 use lib.ListN.{length, getD}
 use lib.Pow.{pow-mono}
-use lib.Dec.{eqb, leb, ltb}
-use borrow.Author.Tests.{ltb-true, leb-true, eqb-true, lt-ltb}
-use Rattle.laws.proofs.Bools.{and-left, and-right, and-both}
+use lib.Dec.{ltb}
+use borrow.Author.Tests.{ltb-true, leb-true, eqb-true}
+use Rattle.laws.proofs.Bools.{and-left, and-right}
 use Rattle.kinds.specs.Kinds.{codeOf, kindOf, isFlipFlop}
 use Rattle.kinds.proofs.Codes.{kind-code, code-kind}
 use Rattle.kinds.specs.declared.Kind.{Kind}
 use Rattle.kinds.specs.declared.Kind.the-variants.{And2, Xor2, And3, Xor3, Maj, Mux, AndN, OrN, NandN, NorN, XorN, XnorN, Buf, Dff, Lut}
-use Rattle.model.specs.Gate.{Gate, noGate, isDff, isLut, fitsKind, fitsCode, fitsTable, shaped, allShaped, fanin}
+use Rattle.model.specs.Gate.{Gate, noGate, isDff, isLut, fitsKind, fitsCode, fitsTable, shaped, allShaped}
 
 pub code-small : (code n : ℕ) → fitsCode code n ≡ true → code < 15
 unfolding fitsCode

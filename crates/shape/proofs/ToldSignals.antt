@@ -1,18 +1,16 @@
 -- Each test of the model tells its line: 6 and 7.
 use mathlib.Core.Path.{_≡_, refl, sym, ap, _∙_}
-use mathlib.Core.Logic.{_≢_, _⊎_, inl, inr, ⊎-elim}
+use mathlib.Core.Logic.{_⊎_, inl, inr, ⊎-elim}
 use mathlib.Core.Bool.{Bool, true, false, _&&_, _||_}
 use mathlib.Core.List.{List, [], _∷_}
-use Prim.Native.Nat.{ℕ, zero, suc, _+_, _-_, _*_, _/_, _%_, _≤_, _<_}
+use Prim.Native.Nat.{ℕ, zero, suc, _+_, _-_, _/_, _%_, _≤_, _<_}
 use native.Mathlib.Omega.{arith}
 use native.Mathlib.Nat.{add-zero}
 use native.Mathlib.Decide.{ℕ-discrete, decLt}
 use lib.ListN.{length, getD}
-use lib.Dec.{ltb}
 use borrow.Author.Tests.{ltb-true, ltb-false, lt-ltb, le-ltb}
 use Rattle.laws.proofs.Bools.{and-left, and-right, and-split, or-left, or-right}
 use Rattle.laws.proofs.Choices.{by-bool}
-use Rattle.kinds.specs.Kinds.{kindOf, isFlipFlop}
 use Rattle.model.specs.Signal.{Ref, rzero, rnode, rinput, ref, fromVar, fromInput}
 use Rattle.model.specs.Gate.{Gate, Net, size, gateAt, noGate, isDff, shaped, namedRef, named, allNamed, gatesNamed, wired, belowRef, allBelow, sortedFrom, isTopoSorted}
 use Rattle.model.specs.Image.{inputsIn, nodesIn, wordsOf, netIn, netOf}

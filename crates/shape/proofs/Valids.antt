@@ -1,14 +1,14 @@
 -- The network of an accepted image is valid.
-use mathlib.Core.Path.{_≡_, refl, sym, ap, _∙_}
-use mathlib.Core.List.{List, [], _∷_}
-use mathlib.Core.Bool.{Bool, true, false, _&&_}
+use mathlib.Core.Path.{_≡_, refl}
+use mathlib.Core.List.{List}
+use mathlib.Core.Bool.{true, _&&_}
 use Prim.Native.Nat.{ℕ, zero, suc, _+_, _/_, _%_, _≤_}
 use native.Mathlib.Omega.{arith}
-use lib.ListN.{length, getD, take, drop, length-drop}
+use lib.ListN.{length, getD, drop, length-drop}
 use lib.Seq.{length-take-le}
 use lib.Dec.{ltb}
 use Rattle.laws.proofs.Bools.{and-left, and-right, and-both}
-use Rattle.model.specs.Gate.{Gate, Net, Valid, fitsCode, fitsTable, shaped, allShaped, fanin, wired}
+use Rattle.model.specs.Gate.{Valid, fitsCode, fitsTable, shaped, allShaped}
 use Rattle.model.specs.Image.{headerOk, codeAt, countAt, sizeAt, tableAt, recordGate, soundAt, gatesFrom, soundFrom, endFrom, nodesIn, outsIn, wordsOf, netIn, netOf, refusalOf}
 use Rattle.shape.proofs.Walks.{ins-length, end-le, length-gates}
 use Rattle.shape.proofs.Accepted.{Accepted, accepted}

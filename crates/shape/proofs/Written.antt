@@ -2,13 +2,12 @@
 use mathlib.Core.Path.{_≡_, refl, sym, ap, ap₂, _∙_}
 use mathlib.Core.List.{List, [], _∷_, _++_, append-assoc}
 use mathlib.Core.Bool.{Bool, true, false}
-use Prim.Native.Nat.{ℕ, zero, suc, _+_, _-_, _*_, _/_, _%_, _<_}
+use Prim.Native.Nat.{ℕ, suc, _+_, _-_, _*_, _/_, _%_, _<_}
 use native.Mathlib.Omega.{arith}
 use native.Mathlib.Nat.{add-zero, zero-add}
 use native.Mathlib.Numerals.{one-add}
 use lib.ListN.{length, getD, take, drop, length-append}
 use lib.Seq.{drop-append-seam, take-append-seam, getD-append-add}
-use lib.Dec.{eqb}
 use Rattle.model.specs.Gate.{Gate, Net, size, isLut, shaped, allShaped}
 use Rattle.model.specs.Image.{words, bytes, wordAt, codeAt, countAt, sizeAt, tableAt, recordGate, gatesFrom, endFrom, inputsIn, nodesIn, outsIn, spanIn, bodyOf, wordsOf, netIn, netOf, tableWords, gateWords, gatesWords, bodyWords, netWords, imageOf}
 use Rattle.model.proofs.Bytes.{words-bytes, length-bytes, getD-words}

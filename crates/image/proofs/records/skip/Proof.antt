@@ -1,3 +1,4 @@
+use Prim.Native.Nat.{_-_}
 use mathlib.Core.Path.{_≡_}
 use borrow.Author.Needs.{needs}
 use Rattle.model.specs.Image.{words, endFrom}
@@ -6,10 +7,10 @@ use Rattle.image.proofs.records.skip.Statement.{statement}
 use Rattle.image.proofs.records.skip.Tie as tie
 
 abbrev Inv-loop : tie.InvT-loop
-Inv-loop body k left₀ at₀ left at = endFrom left (words body) at ≡ endFrom k (words body) 0
+Inv-loop body k v₀ at₀ v at = endFrom (k - v) (words body) at ≡ endFrom k (words body) 0
 
 abbrev μ-loop : tie.MeasureT-loop
-μ-loop body k left₀ at₀ left at = left
+μ-loop body k v₀ at₀ v at = k - v
 
 pub skip-spec : {M : Type 1} → statement M
 skip-spec =

@@ -4,7 +4,8 @@ use native.Mathlib.Omega.{arith}
 use borrow.Author.Needs.{needs}
 use Rattle.model.specs.Image.{words, endFrom}
 use Rattle.image.specs.Reader.{gatesWiring}
-use Rattle.image.proofs.Wires.{joined, turn-step, gates-step, gates}
+use Rattle.image.proofs.Layouts.{walk-step, walks}
+use Rattle.image.proofs.Wires.{joined, gates-step, gates}
 use Rattle.image.proofs.signals.of_records.Statement.{statement}
 use Rattle.image.proofs.signals.of_records.Tie as tie
 
@@ -24,7 +25,7 @@ loop-again c =
     let kind = c .before .before .before .kind-of .ensures in
     let dff = c .before .before .is-flip-flop .ensures in
     let size = c .size-of .ensures in
-    (gates-step _ _ _ _ _ _ _ _ (inv .0) (omega arith) _ header _ ins _ kind _ dff _ size, turn-step _ _ _ _ _ (inv .1) (omega arith) _ header _ size)
+    (gates-step _ _ _ _ _ _ _ _ (inv .0) (omega arith) _ header _ ins _ kind _ dff _ size, walk-step _ _ _ _ _ (inv .1) (omega arith) _ header _ size)
 
 pub of-records-spec : {M : Type 1} → statement M
 of-records-spec =
@@ -32,16 +33,16 @@ of-records-spec =
     (tie.spec
     Inv-loop
     μ-loop
-    (λ c. search (needs, gates))
-    (λ c κs. search (needs, gates))
-    (λ c. search (needs, gates))
-    (λ c. search (needs, gates))
-    (λ c κs. search (needs, gates))
-    (λ c κs. search (needs, gates))
-    (λ c κs. search (needs, gates))
-    (λ c κs. search (needs, gates))
-    (λ c. search (needs, gates))
-    (λ c. search (needs, gates))
-    (λ c. search (needs, gates))
+    (λ c. search (needs, walks, gates))
+    (λ c κs. search (needs, walks, gates))
+    (λ c. search (needs, walks, gates))
+    (λ c. search (needs, walks, gates))
+    (λ c κs. search (needs, walks, gates))
+    (λ c κs. search (needs, walks, gates))
+    (λ c κs. search (needs, walks, gates))
+    (λ c κs. search (needs, walks, gates))
+    (λ c. search (needs, walks, gates))
+    (λ c. search (needs, walks, gates))
+    (λ c. search (needs, walks, gates))
     loop-again
-    (λ c. search (needs, gates)))
+    (λ c. search (needs, walks, gates)))
