@@ -1,25 +1,23 @@
 -- Which way a gate's value is found, by its code: Mux, Lut, or the number of ones; and what a node shows.
-use mathlib.Core.Path.{_≡_, refl, sym, ap, _∙_}
+use mathlib.Core.Path.{_≡_, sym, ap, _∙_}
 use mathlib.Core.Logic.{_≢_}
-use Prim.Native.Nat.{ℕ, _+_, _*_, _/_, _%_, _^_, _≤_, _<_}
-use native.Mathlib.Omega.{arith}
+use Prim.Native.Nat.{ℕ, _+_, _*_, _/_, _^_, _≤_, _<_}
 use mathlib.Core.Bool.{Bool, true, false, cond}
 use mathlib.Core.List.{List}
-use lib.ListN.{length, getD}
+use lib.ListN.{getD}
 use lib.Dec.{eqb, ltb}
 use lib.Bits.{bitAnd}
 use borrow.Author.Tests.{eqb-true, leb-true, ltb-true}
 use Rattle.kinds.specs.Kinds.{kindOf, codeOf}
 use Rattle.kinds.specs.declared.Kind.{Kind}
-use Rattle.kinds.specs.declared.Kind.the-variants.{Mux, Lut}
 use Rattle.kinds.proofs.Codes.{code-kind}
 use Rattle.laws.specs.Lists.{tab}
 use Rattle.laws.proofs.Bools.{and-left, and-right}
 use Rattle.laws.proofs.Tabs.{length-tab}
 use Rattle.model.specs.Gate.{fitsKind, fitsCode}
-use Rattle.model.specs.Evaluate.{weight, valueOf, truths}
+use Rattle.model.specs.Evaluate.{weight, valueOf}
 use Rattle.tables.specs.Layout.{kindAt, firstAt, countAt, lowAt, highAt}
-use Rattle.evaluate.specs.Values.{valuesEnd, inputValue, onesTo, onesValue, lutValue, gateValueAt, dffAt, shownAt, Reads, Gated}
+use Rattle.evaluate.specs.Values.{inputValue, onesTo, onesValue, lutValue, gateValueAt, dffAt, shownAt, Reads, Gated}
 use Rattle.evaluate.proofs.Bits.{mask-odd}
 use Rattle.evaluate.proofs.Sums.{ones-value, weight-small}
 

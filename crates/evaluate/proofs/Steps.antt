@@ -1,88 +1,107 @@
 -- A cycle step by step: what each pass asks follows from `Ready`, and what they leave together is the model's cycle.
 use mathlib.Core.Path.{_≡_, refl, sym, ap, subst, _∙_}
-use Prim.Native.Nat.{ℕ, zero, suc, _+_, _≤_, _<_}
-use native.Mathlib.Nat.{not-suc-le-zero, le-of-suc-le-suc}
+use mathlib.Core.Logic.{_≢_}
+use Prim.Native.Nat.{ℕ, _≤_, _<_}
 use native.Mathlib.Omega.{arith}
-use mathlib.Core.Bool.{Bool, true, false, _&&_}
-use mathlib.Core.List.{List, [], _∷_}
-use lib.ListN.{length, getD, drop}
+use mathlib.Core.Bool.{true}
+use mathlib.Core.List.{List}
+use lib.ListN.{length}
 use lib.Dec.{ltb}
+use borrow.Author.Tests.{eq-eqb, ne-eqb}
+use Rattle.answers.specs.declared.Answer.the-variants.{Accepted, Refused}
 use Rattle.kinds.specs.Kinds.{kindOf}
 use Rattle.laws.specs.Lists.{tab}
 use Rattle.laws.proofs.Bools.{and-left, and-right}
-use Rattle.laws.proofs.Tabs.{length-tab}
-use Rattle.model.specs.Gate.{Gate, Net, noGate, size, fitsCode, shaped, allShaped}
+use Rattle.model.specs.Gate.{Gate, Net, noGate, fitsCode, shaped}
 use Rattle.model.specs.Gate as model
-use Rattle.model.specs.Evaluate.{evaluate, truths}
-use Rattle.model.specs.Answers.{laidOver}
-use Rattle.tables.specs.Layout.{netSize, kindAt, firstAt, countAt, inputAt, insAt, gateAt, outputAt, outputsOf, netOf, store}
-use Rattle.evaluate.specs.Values.{valuesBase, valuesEnd, dffAt, inputsTo, forwardTo, outputByte, newByte, Reads, Gated, Passing, Putting}
-use Rattle.evaluate.specs.Cycle.{Ready, Cycled}
-use Rattle.evaluate.proofs.Numbers.{gate-is, size-is}
+use Rattle.model.specs.Evaluate.{evaluate, truths, cycleRefusal}
+use Rattle.model.specs.Answers.{laidOver, unless}
+use Rattle.model.specs.Entries.{evaluatedOf}
+use Rattle.tables.specs.Layout.{kindAt, countAt, insAt, gateAt, netOf, store}
+use Rattle.tables.specs.Holding.{networkOf}
+use Rattle.tables.specs.Working.{Answered2}
+use Rattle.tables.specs.declared.counts.Counts.{Counts}
+use Rattle.tables.proofs.Nets.{shaped-at}
+use Rattle.tables.proofs.Holding.{size-network, gate-network, length-insAt, length-outputsOf}
+use Rattle.evaluate.specs.Values.{valuesBase, valuesEnd, dffAt, inputsTo, forwardTo, outputByte, newByte, Passing, Putting}
+use Rattle.evaluate.specs.Cycle.{Runs, Ready, Cycled}
+use Rattle.evaluate.proofs.Numbers.{held-few, not-short, outs-long, ins-long, st-long}
 use Rattle.evaluate.proofs.Turns.{three-inputs}
-use Rattle.evaluate.proofs.Table.{Holds, start, holds-inputs, holds-nodes, outputs-are, states-are, rest-store, rest-inputs, rest-nodes}
+use Rattle.evaluate.proofs.Table.{Valued, valued-none, valued-inputs, valued-nodes, outputs-are, states-are}
 
-shaped-at : (gs : List Gate) → allShaped gs ≡ true → (v : ℕ) → v < length gs → shaped (getD gs v noGate) ≡ true
-unfolding allShaped
-shaped-at [] e v h = absurd (not-suc-le-zero h)
-shaped-at (g ∷ gs) e zero h = and-left _ _ e
-shaped-at (g ∷ gs) e (suc v) h = shaped-at gs (and-right (shaped g) _ e) v (le-of-suc-le-suc h)
+module _ (f t : List ℕ) (c : Counts) (ins st out : List ℕ) (r : Ready f t c ins st out) where
+  pub few-inputs : c .inputs ≤ 1024
+  unfolding networkOf netOf
+  few-inputs = r .runs .held .valid .inputs-few
 
-module _ (f t ins st out : List ℕ) (i n o : ℕ) (r : Ready f t ins st out i n o) where
-  pub few-inputs : i ≤ 1024
-  unfolding netOf
-  few-inputs = r .valid .inputs-few
+  few-outs : c .outs ≤ 64
+  unfolding networkOf netOf
+  few-outs = rw (length-outputsOf f (c .outs)) at (r .runs .held .valid .outs-few)
 
-  few-nodes : n ≤ 512
-  few-nodes = rw (size-is f i n o) at (r .valid .nodes-few)
-
-  few-outs : o ≤ 64
-  unfolding netOf outputsOf
-  few-outs = rw length-tab at (r .valid .outs-few)
-
-  gate-fits : (v : ℕ) → v < n → fitsCode (kindAt f v) (countAt f v) ≡ true
-  unfolding shaped gateAt insAt
+  gate-fits : (v : ℕ) → v < c .nodes → fitsCode (kindAt f v) (countAt f v) ≡ true
+  unfolding shaped gateAt
   gate-fits v h =
-      let a : shaped (model.gateAt (netOf f i n o) v) ≡ true = shaped-at (netOf f i n o .nodes) (r .valid .gates-shaped) v (rw (size-is f i n o) h) in
-      let b : shaped (gateAt f v) ≡ true = subst (λ (g : Gate). shaped g ≡ true) (gate-is f i n o v h) a in
-      let c : fitsCode (kindAt f v) (length (insAt f v)) ≡ true = and-left _ _ b in
-      rw (length-tab (λ j. inputAt f (firstAt f v + j)) (countAt f v)) at c
+      let a : shaped (model.gateAt (networkOf f c) v) ≡ true = shaped-at (networkOf f c .nodes) noGate (r .runs .held .valid .gates-shaped) v (rw (size-network f c) h) in
+      let b : shaped (gateAt f v) ≡ true = subst (λ (g : Gate). shaped g ≡ true) (gate-network f c v h) a in
+      let d : fitsCode (kindAt f v) (length (insAt f v)) ≡ true = and-left _ _ b in
+      rw (length-insAt f v) at d
 
-  pub ready-passing : (t′ : List ℕ) → length t′ ≡ length t → Passing f t′ st n
+  pub ready-passing : (t′ : List ℕ) → length t′ ≡ length t → Passing f t′ st (c .nodes)
   ready-passing t′ e =
-      let l : n ≤ 512 = few-nodes in
-      let u : valuesEnd ≤ length t′ = rw e (r .room) in
+      let l : c .nodes ≤ 512 = held-few f c (r .runs .held) in
+      let u : valuesEnd ≤ length t′ = rw e (r .runs .room) in
       record {
         few = l;
-        long = r .long;
+        long = r .runs .held .long;
         room = u;
-        gates = λ v h. record { node = omega arith; reads = record { long = r .long; room = u; ends = r .ends v h }; fits = gate-fits v h };
+        gates = λ v h. record { node = omega arith; reads = record { long = r .runs .held .long; room = u; ends = r .runs .held .ends v h }; fits = gate-fits v h };
         states = r .states;
       }
 
-  pub ready-putting : (t′ : List ℕ) → length t′ ≡ length t → Putting f t′ out o
-  ready-putting t′ e = record { few = few-outs; long = r .long; room = rw e (r .room); outs = r .outs }
+  pub ready-putting : (t′ : List ℕ) → length t′ ≡ length t → Putting f t′ out (c .outs)
+  ready-putting t′ e = record { few = few-outs; long = r .runs .held .long; room = rw e (r .runs .room); outs = r .outs }
 
-  three-at : (v : ℕ) → v < n → dffAt f v ≡ true → countAt f v ≡ 3
+  three-at : (v : ℕ) → v < c .nodes → dffAt f v ≡ true → countAt f v ≡ 3
   unfolding dffAt fitsCode
   three-at v h d = three-inputs (kindOf (kindAt f v)) (countAt f v) d (and-right (ltb (kindAt f v) 15) _ (gate-fits v h))
 
   -- THE CYCLE
-  pub cycled : (a b c st′ out′ : List ℕ) → a ≡ store t valuesBase 0 0 → b ≡ inputsTo ins a i → c ≡ forwardTo f st b n
-      → out′ ≡ laidOver (tab (outputByte f c) o) out → st′ ≡ laidOver (tab (newByte f c st) n) st → Cycled (netOf f i n o) ins st out t st′ out′ c
-  cycled a b c st′ out′ p q s x y =
-      let N = netOf f i n o in
-      let v = evaluate N (truths ins) (truths st) in
-      let h0 : Holds a 0 0 (truths ins) v = rw p (start (truths ins) v t (r .room)) in
-      let h1 : Holds b i 0 (truths ins) v = rw q (holds-inputs ins a v i few-inputs h0) in
-      let h2 : Holds c i n (truths ins) v = rw s (holds-nodes f ins st i n o few-inputs few-nodes (r .valid .signals) (r .sorted) b h1 n (omega arith)) in
+  pub cycled : (t1 t2 t3 st′ out′ : List ℕ) → t1 ≡ store t valuesBase 0 0 → t2 ≡ inputsTo ins t1 (c .inputs) → t3 ≡ forwardTo f st t2 (c .nodes)
+      → out′ ≡ laidOver (tab (outputByte f t3) (c .outs)) out → st′ ≡ laidOver (tab (newByte f t3 st) (c .nodes)) st → Cycled (networkOf f c) ins st out st′ out′
+  cycled t1 t2 t3 st′ out′ p q s x y =
+      let small : c .nodes ≤ 512 = held-few f c (r .runs .held) in
+      let wired = r .runs .held .valid .signals in
+      let v = evaluate (networkOf f c) (truths ins) (truths st) in
+      let h1 : Valued t1 0 0 (truths ins) v = rw p (valued-none (truths ins) v t (r .runs .room)) in
+      let h2 : Valued t2 (c .inputs) 0 (truths ins) v = rw q (valued-inputs ins t1 v (c .inputs) few-inputs h1) in
+      let h3 : Valued t3 (c .inputs) (c .nodes) (truths ins) v = rw s (valued-nodes f ins st c few-inputs small wired (r .runs .sorted) t2 h2 (c .nodes) (omega arith)) in
       record {
-        outputs = x ∙ ap (λ l. laidOver l out) (outputs-are f ins st i n o few-inputs few-nodes (r .valid .signals) (r .sorted) c h2);
-        states = y ∙ ap (λ l. laidOver l st) (states-are f ins st i n o few-inputs few-nodes (r .valid .signals) (r .sorted) c h2 three-at);
-        rest =
-            ap (drop valuesEnd) s ∙ rest-nodes f st b n few-nodes
-            ∙ ap (drop valuesEnd) q ∙ rest-inputs ins a i few-inputs
-            ∙ ap (drop valuesEnd) p ∙ rest-store t 0 0 (omega arith);
+        outputs = x ∙ ap (λ l. laidOver l out) (outputs-are f ins st c few-inputs small wired (r .runs .sorted) t3 h3);
+        states = y ∙ ap (λ l. laidOver l st) (states-are f ins st c few-inputs small wired (r .runs .sorted) t3 h3 three-at);
       }
 
-pub ruleset steps = (few-inputs, ready-passing, ready-putting, cycled)
+-- ---- the answer
+
+pub ready-when : (f t : List ℕ) (c : Counts) (ins st out : List ℕ) (n : ℕ) → Runs f t c → n ≡ cycleRefusal (networkOf f c) ins st (length out) → n ≡ 0
+    → Ready f t c ins st out
+ready-when f t c ins st out n r e z =
+    let s = not-short f c ins st (length out) (sym e ∙ z) in
+    record {
+      runs = r;
+      inputs = ins-long ins st (length out) (c .inputs) (c .nodes) (c .outs) s;
+      states = st-long ins st (length out) (c .inputs) (c .nodes) (c .outs) s;
+      outs = outs-long ins st (length out) (c .inputs) (c .nodes) (c .outs) s;
+    }
+
+module _ (N : Net) (ins st out : List ℕ) (n : ℕ) (e : n ≡ cycleRefusal N ins st (length out)) where
+  pub answered-number : n ≢ 0 → Answered2 (unless (cycleRefusal N ins st (length out)) (evaluatedOf N ins st)) out st (Refused n) out st
+  unfolding unless
+  answered-number d = rw (← e, ne-eqb n 0 d) (record { first = record { answer = refl; result = refl }; second-is = refl })
+
+  pub answered-cycle : (st′ out′ : List ℕ) → n ≡ 0 → Cycled N ins st out st′ out′
+      → Answered2 (unless (cycleRefusal N ins st (length out)) (evaluatedOf N ins st)) out st (Accepted 0) out′ st′
+  unfolding unless evaluatedOf
+  answered-cycle st′ out′ z h =
+      rw (← e, eq-eqb n 0 z) (record { first = record { answer = refl; result = h .outputs }; second-is = h .states })
+
+pub ruleset steps = (ready-when, answered-number, answered-cycle)

@@ -3,42 +3,43 @@
 use mathlib.Core.Path.{_≡_, refl, sym, ap, subst, _∙_}
 use mathlib.Core.Logic.{_≢_}
 use Prim.Native.Nat.{ℕ, zero, suc, _+_, _-_, _*_, _/_, _%_, _^_, _≤_, _<_}
-use native.Mathlib.Nat.{not-suc-le-zero, le-of-suc-le-suc}
+use native.Mathlib.Nat.{not-suc-le-zero}
 use native.Mathlib.Omega.{arith}
 use native.Mathlib.Decide.{ℕ-discrete, decLt}
-use native.Mathlib.Numerals.{add-one}
-use mathlib.Core.Bool.{Bool, true, false, cond, _&&_}
-use mathlib.Core.List.{List, [], _∷_, map}
-use lib.ListN.{length, getD, set, drop, length-set}
-use lib.Seq.{drop-set-lt}
+use mathlib.Core.Bool.{Bool, true, false}
+use mathlib.Core.List.{List, map}
+use lib.ListN.{length}
 use lib.Dec.{ltb}
 use borrow.Author.Tests.{ltb-true}
 use Rattle.kinds.specs.Kinds.{kindOf}
 use Rattle.laws.specs.Bools.{xor, bit}
-use Rattle.laws.specs.Lists.{All, tab}
+use Rattle.laws.specs.Lists.{tab}
 use Rattle.laws.proofs.Bools.{and-left, and-right}
 use Rattle.laws.proofs.Choices.{by-bool}
 use Rattle.laws.proofs.Lists.{all-at}
-use Rattle.laws.proofs.Tabs.{tab-ext, length-tab, getD-tab, map-tab}
-use Rattle.model.specs.Signal.{isInverted, Ref, rzero, rnode, rinput, ref}
-use Rattle.model.specs.Gate.{Gate, Net, isDff, size, named, allNamed, allShaped, shaped, fitsCode}
+use Rattle.laws.proofs.Tabs.{tab-ext, map-tab}
+use Rattle.model.specs.Signal.{isInverted, rnode, rinput, ref}
+use Rattle.model.specs.Gate.{Gate, Net, isDff, size, named, allNamed}
 use Rattle.model.specs.Gate as model
 use Rattle.model.specs.Evaluate.{valueOf, refValue, signalValue, gateValue, shows, evaluate, outputs, next, nextState, truths, cycleValues, outputBytes, stateByte, stateBytes}
 use Rattle.model.proofs.Words.{constant-ref, var-ref, input-ref}
 use Rattle.model.proofs.Names.{Names, In, named-names, sorted, wired-gate, wired-outs}
 use Rattle.model.proofs.Forward.{shows-dff, shows-comb, evaluate-sorted}
-use Rattle.tables.specs.Layout.{netSize, kindAt, firstAt, countAt, inputAt, lowAt, highAt, outputAt, insAt, gateAt, outputsOf, netOf, cell, store}
+use Rattle.tables.specs.Holding.{networkOf}
+use Rattle.tables.specs.declared.counts.Counts.{Counts}
+use Rattle.tables.proofs.Nets.{named-at}
+use Rattle.tables.proofs.Holding.{size-network, gate-network, getD-insAt, length-insAt, getD-outputsOf, length-outputsOf}
+use Rattle.tables.specs.Layout.{kindAt, firstAt, countAt, inputAt, lowAt, highAt, outputAt, insAt, gateAt, outputsOf, netOf, cell, store}
 use Rattle.tables.proofs.Places.{length-store, cell-store, cell-store-other}
 use Rattle.evaluate.specs.Values.{valuesBase, valuesEnd, slot, isOdd, valueAt, inputValue, gateValueAt, dffAt, shownAt, inputsTo, forwardTo, outputByte, newState, newByte}
-use Rattle.evaluate.specs.Cycle.{Ready}
-use Rattle.evaluate.proofs.Numbers.{gate-is, size-is, dff-is}
+use Rattle.evaluate.proofs.Numbers.{dff-is}
 
 odd-bit : (b : Bool) → isOdd (bit b) ≡ b
 odd-bit true = refl
 odd-bit false = refl
 
 -- the values of i inputs and of the nodes below k
-pub record Holds (t : List ℕ) (i k : ℕ) (inp v : ℕ → Bool) : Type 0 where
+pub record Valued (t : List ℕ) (i k : ℕ) (inp v : ℕ → Bool) : Type 0 where
   pub room : valuesEnd ≤ length t
   pub none : isOdd (cell t valuesBase 0) ≡ false
   pub inputs : (j : ℕ) → j < i → isOdd (cell t valuesBase (2047 - j)) ≡ inp j
@@ -46,7 +47,7 @@ pub record Holds (t : List ℕ) (i k : ℕ) (inp v : ℕ → Bool) : Type 0 wher
 
 -- ---- a signal that names no others is read right
 
-module _ (t : List ℕ) (i k n : ℕ) (inp v : ℕ → Bool) (h : Holds t i k inp v) (few : i ≤ 1024) (low : k ≤ 512) where
+module _ (t : List ℕ) (i k n : ℕ) (inp v : ℕ → Bool) (h : Valued t i k inp v) (few : i ≤ 1024) (low : k ≤ 512) where
   abbrev stored : ℕ → Bool
   stored s = isOdd (cell t valuesBase (slot s))
 
@@ -86,13 +87,9 @@ value-other t p x q d = cell-store-other t valuesBase p x valuesBase q (λ e. d 
 length-values : (t : List ℕ) (p x : ℕ) → valuesEnd ≤ length t → valuesEnd ≤ length (store t valuesBase p x)
 length-values t p x h = rw length-store h
 
-pub rest-store : (t : List ℕ) (p x : ℕ) → p < 2048 → drop valuesEnd (store t valuesBase p x) ≡ drop valuesEnd t
-unfolding store
-rest-store t p x h = drop-set-lt valuesEnd t (valuesBase + p) x (omega arith)
-
 module _ (inp v : ℕ → Bool) where
-  pub start : (t : List ℕ) → valuesEnd ≤ length t → Holds (store t valuesBase 0 0) 0 0 inp v
-  start t h = record {
+  pub valued-none : (t : List ℕ) → valuesEnd ≤ length t → Valued (store t valuesBase 0 0) 0 0 inp v
+  valued-none t h = record {
     room = length-values t 0 0 h;
     none = ap isOdd (value-store t 0 0 h (omega arith));
     inputs = λ j l. absurd (not-suc-le-zero l);
@@ -100,7 +97,7 @@ module _ (inp v : ℕ → Bool) where
   }
 
   -- the next input's value
-  one-input : (t : List ℕ) (i : ℕ) → Holds t i 0 inp v → i < 1024 → Holds (store t valuesBase (2047 - i) (bit (inp i))) (suc i) 0 inp v
+  one-input : (t : List ℕ) (i : ℕ) → Valued t i 0 inp v → i < 1024 → Valued (store t valuesBase (2047 - i) (bit (inp i))) (suc i) 0 inp v
   one-input t i h l = record {
     room = length-values t (2047 - i) (bit (inp i)) (h .room);
     none = ap isOdd (value-other t (2047 - i) (bit (inp i)) 0 (λ e. omega arith)) ∙ h .none;
@@ -112,7 +109,7 @@ module _ (inp v : ℕ → Bool) where
   }
 
   -- the next node's value
-  one-node : (t : List ℕ) (i k : ℕ) (b : Bool) → Holds t i k inp v → i ≤ 1024 → k < 512 → b ≡ v k → Holds (store t valuesBase (k + 1) (bit b)) i (suc k) inp v
+  one-node : (t : List ℕ) (i k : ℕ) (b : Bool) → Valued t i k inp v → i ≤ 1024 → k < 512 → b ≡ v k → Valued (store t valuesBase (k + 1) (bit b)) i (suc k) inp v
   one-node t i k b h few l q = record {
     room = length-values t (k + 1) (bit b) (h .room);
     none = ap isOdd (value-other t (k + 1) (bit b) 0 (λ e. omega arith)) ∙ h .none;
@@ -123,117 +120,107 @@ module _ (inp v : ℕ → Bool) where
     ];
   }
 
-pub holds-inputs : (ins t : List ℕ) (v : ℕ → Bool) (i : ℕ) → i ≤ 1024 → Holds t 0 0 (truths ins) v → Holds (inputsTo ins t i) i 0 (truths ins) v
+pub valued-inputs : (ins t : List ℕ) (v : ℕ → Bool) (i : ℕ) → i ≤ 1024 → Valued t 0 0 (truths ins) v → Valued (inputsTo ins t i) i 0 (truths ins) v
 unfolding inputsTo
-holds-inputs ins t v zero l h = h
-holds-inputs ins t v (suc i) l h = one-input (truths ins) v (inputsTo ins t i) i (holds-inputs ins t v i (omega arith) h) (omega arith)
+valued-inputs ins t v zero l h = h
+valued-inputs ins t v (suc i) l h = one-input (truths ins) v (inputsTo ins t i) i (valued-inputs ins t v i (omega arith) h) (omega arith)
 
 -- ---- the forward pass
 
--- an element of a list whose signals are named
-named-at : (i n : ℕ) (l : List ℕ) → allNamed i n l ≡ true → (j : ℕ) → j < length l → named i n (getD l j 0) ≡ true
-unfolding allNamed
-named-at i n [] e j h = absurd (not-suc-le-zero h)
-named-at i n (s ∷ l) e zero h = and-left _ _ e
-named-at i n (s ∷ l) e (suc j) h = named-at i n l (and-right (named i n s) _ e) j (le-of-suc-le-suc h)
+module _ (f ins st : List ℕ) (c : Counts) where
+  abbrev i : ℕ
+  i = c .inputs
 
-module _ (f ins st : List ℕ) (i n o : ℕ) where
+  abbrev n : ℕ
+  n = c .nodes
+
   abbrev N : Net
-  N = netOf f i n o
+  N = networkOf f c
+
+  abbrev inp : ℕ → Bool
+  inp = truths ins
 
   abbrev v : ℕ → Bool
-  v = evaluate N (truths ins) (truths st)
+  v = evaluate N inp (truths st)
 
   module _ (few : i ≤ 1024) (small : n ≤ 512) (w : model.wired N ≡ true) (s : model.isTopoSorted N ≡ true) where
     -- the inputs of node m, one by one
     input-named : (m j : ℕ) → m < n → j < countAt f m → named i n (inputAt f (firstAt f m + j)) ≡ true
-    unfolding netOf insAt gateAt
+    unfolding networkOf netOf gateAt
     input-named m j h l =
-        let a : allNamed i (size N) (model.gateAt N m .ins) ≡ true = wired-gate N w m (rw (size-is f i n o) h) in
-        let b : allNamed i n (insAt f m) ≡ true = rw (size-is f i n o, ap (λ (g : Gate). g .ins) (gate-is f i n o m h)) at a in
-        rw (getD-tab (λ k. inputAt f (firstAt f m + k)) (countAt f m) j 0 l) at (named-at i n (insAt f m) b j (rw length-tab l))
+        let a : allNamed i (size N) (model.gateAt N m .ins) ≡ true = wired-gate N w m (rw (size-network f c) h) in
+        let b : allNamed i n (insAt f m) ≡ true = rw (size-network f c, ap (λ (g : Gate). g .ins) (gate-network f c m h)) at a in
+        rw (getD-insAt f m j l) at (named-at i n (insAt f m) b j (rw length-insAt l))
 
     input-below : (m j : ℕ) → m < n → dffAt f m ≡ false → j < countAt f m → Names (λ x. x < m) (inputAt f (firstAt f m + j))
-    unfolding insAt gateAt
+    unfolding gateAt
     input-below m j h d l =
-        let a : In (λ x. x < m) (model.gateAt N m .ins) = sorted N s m (rw (size-is f i n o) h) (dff-is f i n o m h ∙ d) in
-        let b : In (λ x. x < m) (insAt f m) = subst (λ (g : Gate). In (λ x. x < m) (g .ins)) (gate-is f i n o m h) a in
-        subst (Names (λ x. x < m)) (getD-tab (λ k. inputAt f (firstAt f m + k)) (countAt f m) j 0 l)
-        (all-at (Names (λ x. x < m)) (insAt f m) 0 b j (rw length-tab l))
+        let a : In (λ x. x < m) (model.gateAt N m .ins) = sorted N s m (rw (size-network f c) h) (dff-is f c m h ∙ d) in
+        let b : In (λ x. x < m) (insAt f m) = subst (λ (g : Gate). In (λ x. x < m) (g .ins)) (gate-network f c m h) a in
+        subst (Names (λ x. x < m)) (getD-insAt f m j l) (all-at (Names (λ x. x < m)) (insAt f m) 0 b j (rw length-insAt l))
 
     -- the list of a gate's inputs' values
-    inputs-are : (t : List ℕ) (m k : ℕ) → m < n → k ≤ 512 → Holds t i k (truths ins) v → ((j : ℕ) → j < countAt f m → Names (λ x. x < k) (inputAt f (firstAt f m + j)))
-        → tab (inputValue f t (firstAt f m)) (countAt f m) ≡ map (signalValue (truths ins) v) (insAt f m)
+    inputs-are : (t : List ℕ) (m k : ℕ) → m < n → k ≤ 512 → Valued t i k inp v → ((j : ℕ) → j < countAt f m → Names (λ x. x < k) (inputAt f (firstAt f m + j)))
+        → tab (inputValue f t (firstAt f m)) (countAt f m) ≡ map (signalValue inp v) (insAt f m)
     unfolding insAt inputValue
-    inputs-are t m k h few′ hold below =
-        tab-ext _ _ (countAt f m) (λ j l. value-is t i k n (truths ins) v hold few few′ (inputAt f (firstAt f m + j)) (input-named m j h l) (below j l))
-        ∙ sym (map-tab (signalValue (truths ins) v) (λ j. inputAt f (firstAt f m + j)) (countAt f m))
+    inputs-are t m k h low hold below =
+        tab-ext _ _ (countAt f m) (λ j l. value-is t i k n inp v hold few low (inputAt f (firstAt f m + j)) (input-named m j h l) (below j l))
+        ∙ sym (map-tab (signalValue inp v) (λ j. inputAt f (firstAt f m + j)) (countAt f m))
 
-    gate-value : (t : List ℕ) (m : ℕ) → m < n → Holds t i m (truths ins) v → dffAt f m ≡ false → gateValueAt f t m ≡ gateValue (truths ins) v (gateAt f m)
+    gate-value : (t : List ℕ) (m : ℕ) → m < n → Valued t i m inp v → dffAt f m ≡ false → gateValueAt f t m ≡ gateValue inp v (gateAt f m)
     unfolding gateValueAt gateValue gateAt
     gate-value t m h hold d =
         ap (λ l. valueOf (kindOf (kindAt f m)) l (lowAt f m + 2 ^ 32 * highAt f m)) (inputs-are t m m h (omega arith) hold (λ j l. input-below m j h d l))
 
-    shown-is : (t : List ℕ) (m : ℕ) → m < n → Holds t i m (truths ins) v → shownAt f t st m ≡ v m
+    shown-is : (t : List ℕ) (m : ℕ) → m < n → Valued t i m inp v → shownAt f t st m ≡ v m
     unfolding shownAt
     shown-is t m h hold =
-        let g : model.gateAt N m ≡ gateAt f m = gate-is f i n o m h in
-        let e : isDff (model.gateAt N m) ≡ dffAt f m = dff-is f i n o m h in
-        let c : v m ≡ shows (truths ins) v (model.gateAt N m) (truths st m) = evaluate-sorted N s (truths ins) (truths st) m (rw (size-is f i n o) h) in
+        let g : model.gateAt N m ≡ gateAt f m = gate-network f c m h in
+        let e : isDff (model.gateAt N m) ≡ dffAt f m = dff-is f c m h in
+        let q : v m ≡ shows inp v (model.gateAt N m) (truths st m) = evaluate-sorted N s inp (truths st) m (rw (size-network f c) h) in
         by-bool (dffAt f m)
-        (λ d. rw d (sym (c ∙ shows-dff (truths ins) v (model.gateAt N m) (truths st m) (e ∙ d))))
-        (λ d. rw d (gate-value t m h hold d ∙ ap (gateValue (truths ins) v) (sym g) ∙ sym (c ∙ shows-comb (truths ins) v (model.gateAt N m) (truths st m) (e ∙ d))))
+        (λ d. rw d (sym (q ∙ shows-dff inp v (model.gateAt N m) (truths st m) (e ∙ d))))
+        (λ d. rw d (gate-value t m h hold d ∙ ap (gateValue inp v) (sym g) ∙ sym (q ∙ shows-comb inp v (model.gateAt N m) (truths st m) (e ∙ d))))
 
-    pub holds-nodes : (t : List ℕ) → Holds t i 0 (truths ins) v → (k : ℕ) → k ≤ n → Holds (forwardTo f st t k) i k (truths ins) v
+    pub valued-nodes : (t : List ℕ) → Valued t i 0 inp v → (k : ℕ) → k ≤ n → Valued (forwardTo f st t k) i k inp v
     unfolding forwardTo
-    holds-nodes t h zero l = h
-    holds-nodes t h (suc k) l =
-        let r : Holds (forwardTo f st t k) i k (truths ins) v = holds-nodes t h k (omega arith) in
-        one-node (truths ins) v (forwardTo f st t k) i k _ r few (omega arith) (shown-is (forwardTo f st t k) k l r)
+    valued-nodes t h zero l = h
+    valued-nodes t h (suc k) l =
+        let r : Valued (forwardTo f st t k) i k inp v = valued-nodes t h k (omega arith) in
+        one-node inp v (forwardTo f st t k) i k _ r few (omega arith) (shown-is (forwardTo f st t k) k l r)
 
     -- ---- the bytes, by a table that holds every node's value
 
-    module _ (t : List ℕ) (hold : Holds t i n (truths ins) v) where
-      pub outputs-are : tab (outputByte f t) o ≡ outputBytes N ins st
-      unfolding outputByte outputBytes outputs cycleValues netOf outputsOf
-      outputs-are =
-          tab-ext _ _ o (λ j l. ap bit (value-is t i n n (truths ins) v hold few small (outputAt f j) (output-named j l) (named-names i n (outputAt f j) (output-named j l))))
-          ∙ sym (map-tab bit (λ j. signalValue (truths ins) v (outputAt f j)) o)
-          ∙ ap (map bit) (sym (map-tab (signalValue (truths ins) v) (outputAt f) o))
-        where
-          output-named : (j : ℕ) → j < o → named i n (outputAt f j) ≡ true
-          output-named j l =
-              let a : allNamed i (size N) (tab (outputAt f) o) ≡ true = wired-outs N w in
-              rw (getD-tab (outputAt f) o j 0 l) at (named-at i n (tab (outputAt f) o) (rw (size-is f i n o) at a) j (rw length-tab l))
+    output-named : (j : ℕ) → j < c .outs → named i n (outputAt f j) ≡ true
+    unfolding networkOf netOf
+    output-named j l =
+        let a : allNamed i (size N) (outputsOf f (c .outs)) ≡ true = wired-outs N w in
+        rw (getD-outputsOf f (c .outs) j l) at (named-at i n (outputsOf f (c .outs)) (rw (size-network f c) at a) j (rw length-outputsOf l))
 
-      new-is : (m : ℕ) → m < n → dffAt f m ≡ true → countAt f m ≡ 3 → newState f t (firstAt f m) (truths st m) ≡ nextState (map (signalValue (truths ins) v) (gateAt f m .ins)) (truths st m)
+    module _ (t : List ℕ) (hold : Valued t i n inp v) where
+      pub outputs-are : tab (outputByte f t) (c .outs) ≡ outputBytes N ins st
+      unfolding outputByte outputBytes outputs cycleValues networkOf netOf outputsOf
+      outputs-are =
+          tab-ext _ _ (c .outs) (λ j l. ap bit (value-is t i n n inp v hold few small (outputAt f j) (output-named j l) (named-names i n (outputAt f j) (output-named j l))))
+          ∙ sym (map-tab bit (λ j. signalValue inp v (outputAt f j)) (c .outs))
+          ∙ ap (map bit) (sym (map-tab (signalValue inp v) (outputAt f) (c .outs)))
+
+      new-is : (m : ℕ) → m < n → countAt f m ≡ 3 → newState f t (firstAt f m) (truths st m) ≡ nextState (map (signalValue inp v) (gateAt f m .ins)) (truths st m)
       unfolding newState gateAt tab
-      new-is m h d c =
+      new-is m h three =
           ap (λ l. nextState l (truths st m))
-          (ap (tab (inputValue f t (firstAt f m))) (sym c)
+          (ap (tab (inputValue f t (firstAt f m))) (sym three)
           ∙ inputs-are t m n h small hold (λ j l. named-names i n (inputAt f (firstAt f m + j)) (input-named m j h l)))
 
       byte-is : (m : ℕ) → m < n → (dffAt f m ≡ true → countAt f m ≡ 3) → newByte f t st m ≡ stateByte N ins st m
       unfolding newByte stateByte cycleValues next
-      byte-is m h c =
-          let g : model.gateAt N m ≡ gateAt f m = gate-is f i n o m h in
-          let e : isDff (model.gateAt N m) ≡ dffAt f m = dff-is f i n o m h in
+      byte-is m h three =
+          let g : model.gateAt N m ≡ gateAt f m = gate-network f c m h in
+          let e : isDff (model.gateAt N m) ≡ dffAt f m = dff-is f c m h in
           by-bool (dffAt f m)
-          (λ d. rw (e, d) (ap bit (new-is m h d (c d) ∙ ap (λ (x : Gate). nextState (map (signalValue (truths ins) v) (x .ins)) (truths st m)) (sym g))))
+          (λ d. rw (e, d) (ap bit (new-is m h (three d) ∙ ap (λ (x : Gate). nextState (map (signalValue inp v) (x .ins)) (truths st m)) (sym g))))
           (λ d. rw (e, d))
 
       pub states-are : ((m : ℕ) → m < n → dffAt f m ≡ true → countAt f m ≡ 3) → tab (newByte f t st) n ≡ stateBytes N ins st
       unfolding stateBytes
-      states-are c = tab-ext _ _ n (λ m h. byte-is m h (c m h)) ∙ rw (size-is f i n o)
-
--- ---- nothing past the values is written
-
-pub rest-inputs : (ins t : List ℕ) (i : ℕ) → i ≤ 1024 → drop valuesEnd (inputsTo ins t i) ≡ drop valuesEnd t
-unfolding inputsTo
-rest-inputs ins t zero h = refl
-rest-inputs ins t (suc i) h = rest-store (inputsTo ins t i) (2047 - i) _ (omega arith) ∙ rest-inputs ins t i (omega arith)
-
-pub rest-nodes : (f st t : List ℕ) (n : ℕ) → n ≤ 512 → drop valuesEnd (forwardTo f st t n) ≡ drop valuesEnd t
-unfolding forwardTo
-rest-nodes f st t zero h = refl
-rest-nodes f st t (suc n) h = rest-store (forwardTo f st t n) (n + 1) _ (omega arith) ∙ rest-nodes f st t n (omega arith)
+      states-are three = tab-ext _ _ n (λ m h. byte-is m h (three m h)) ∙ rw (size-network f c)

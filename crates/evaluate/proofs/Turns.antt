@@ -1,7 +1,6 @@
 -- The turns of each loop, with premises as the code meets them: one ruleset answers every need.
 use mathlib.Core.Path.{_≡_, refl, sym, ap, _∙_}
-use mathlib.Core.Logic.{_≢_}
-use Prim.Native.Nat.{ℕ, zero, suc, _+_, _-_, _*_, _/_, _%_, _^_, _≤_, _<_}
+use Prim.Native.Nat.{ℕ, suc, _+_, _-_, _*_, _/_, _≤_, _<_}
 use native.Mathlib.Omega.{arith}
 use native.Mathlib.Nat.{le-antisymm}
 use native.Mathlib.Numerals.{add-one}
@@ -9,7 +8,7 @@ use mathlib.Core.Bool.{Bool, true, false, not, cond, _&&_, _||_}
 use mathlib.Core.List.{List, [], _∷_, _++_}
 use lib.ListN.{length, getD, set, drop, length-set, length-drop, drop-of-length-le}
 use lib.Dec.{eqb, ltb}
-use lib.Bits.{bitAnd, bitXor}
+use lib.Bits.{bitAnd}
 use borrow.Author.Tests.{lt-ltb, le-ltb, eqb-true, not-true, not-false}
 use mir.Syntax.{w64}
 use mir.Val.{Fits}
@@ -19,13 +18,13 @@ use Rattle.kinds.specs.declared.Kind.the-variants.{And2, Xor2, And3, Xor3, Maj,
 use Rattle.laws.specs.Bools.{bit}
 use Rattle.laws.specs.Lists.{tab, someBelow}
 use Rattle.laws.proofs.Bools.{and-right, taut3}
-use Rattle.laws.proofs.Lists.{none-some, some-none}
+use Rattle.laws.proofs.Lists.{some-none}
 use Rattle.laws.proofs.Tabs.{length-tab, drop-tab, fill-put, fill-read, fill-skip}
 use Rattle.model.specs.Gate.{fitsKind, fitsCode}
-use Rattle.model.specs.Evaluate.{weight, nextState, truths}
+use Rattle.model.specs.Evaluate.{weight, nextState}
 use Rattle.model.specs.Answers.{laidOver}
 use Rattle.tables.specs.Layout.{kindAt, firstAt, countAt, inputAt, outputAt}
-use Rattle.evaluate.specs.Values.{valuesBase, valuesEnd, slot, valueAt, inputValue, onesTo, outputByte, newState, newByte, dffAt, aboveOne, cellAbove, Reads, Gated, Passing}
+use Rattle.evaluate.specs.Values.{valuesEnd, slot, valueAt, inputValue, onesTo, outputByte, newState, newByte, dffAt, aboveOne, cellAbove, Reads, Gated, Passing}
 use Rattle.evaluate.proofs.Bits.{mask-slot, slot-below, reads-value}
 use Rattle.evaluate.proofs.Sums.{ones-most, weight-small}
 

@@ -1,14 +1,14 @@
 // The numbers that a cycle itself can give: 13 and 14.
 ghost use mathlib.Core.Path.{_≡_};
-ghost use mathlib.Core.Bool.{_&&_};
-ghost use Prim.Native.Nat.{ℕ, _+_, _<_, _≤_};
-ghost use lib.ListN.{length, getD};
-ghost use lib.Dec.{ltb};
+ghost use Prim.Native.Nat.{_≤_};
+ghost use lib.ListN.{length};
 ghost use Rattle.laws.specs.Lists.{someBelow};
 ghost use Rattle.model.specs.Evaluate.{cycleRefusal};
-ghost use Rattle.tables.specs.Layout.{netSize, netOf};
+ghost use Rattle.tables.specs.Layout.{netSize};
+ghost use Rattle.tables.specs.Holding.{networkOf, Held};
 ghost use Rattle.evaluate.specs.Values.{aboveOne, cellAbove};
 use crate::gate::is_dff;
+use tables::counts::Counts;
 
 // One of the first i bytes is above 1.
 fn input_above(inputs: &[u8], i: usize) -> bool
@@ -40,23 +40,15 @@ fn state_above(from: &[u32], state: &[u8], n: usize) -> bool
     false
 }
 
-// 13, 14 or 0, of the network of i inputs, n nodes and o outputs; room is the length lent for the outputs.
-pub fn refusal(
-    from: &[u32],
-    inputs: &[u8],
-    state: &[u8],
-    room: usize,
-    i: usize,
-    n: usize,
-    o: usize,
-) -> u32
-    requires { ⌜ (n ≤ 512) × (netSize ≤ length (now from)) ⌝ }
-    ensures { λ r. ⌜ r ≡ cycleRefusal (netOf (now (from .entry)) i n o) (now (inputs .entry)) (now (state .entry)) room ⌝ }
+// 13, 14 or 0; room is the length lent for the outputs.
+pub fn refusal(from: &[u32], counts: Counts, inputs: &[u8], state: &[u8], room: usize) -> u32
+    requires { ⌜ Held (now from) counts ⌝ }
+    ensures { λ r. ⌜ r ≡ cycleRefusal (networkOf (now (from .entry)) counts) (now (inputs .entry)) (now (state .entry)) room ⌝ }
 {
-    if (room < o) | (inputs.len() < i) | (state.len() < n) {
+    if (room < counts.outs) | (inputs.len() < counts.inputs) | (state.len() < counts.nodes) {
         return 13;
     }
-    if input_above(inputs, i) | state_above(from, state, n) {
+    if input_above(inputs, counts.inputs) | state_above(from, state, counts.nodes) {
         return 14;
     }
     0

@@ -1,7 +1,7 @@
 // One node's value from the values before it.
 ghost use mathlib.Core.Path.{_≡_};
 ghost use mathlib.Core.Bool.{cond};
-ghost use Prim.Native.Nat.{ℕ, _+_, _<_, _≤_};
+ghost use Prim.Native.Nat.{_+_, _<_, _≤_};
 ghost use lib.ListN.{length};
 ghost use Rattle.tables.specs.Layout.{netSize};
 ghost use Rattle.evaluate.specs.Values.{inputValue, onesValue, lutValue, gateValueAt, dffAt, shownAt, Reads, Gated};
@@ -10,7 +10,7 @@ use crate::values::value;
 use crate::values::weight;
 use kinds::Kind;
 use kinds::code;
-use kinds::is_flip_flop;
+use kinds::is_flip_flop_code;
 use kinds::kind_of;
 use tables::layout::count_at;
 use tables::layout::first_at;
@@ -84,7 +84,7 @@ pub fn is_dff(from: &[u32], v: usize) -> bool
     requires { ⌜ (v < 512) × (netSize ≤ length (now from)) ⌝ }
     ensures { λ r. ⌜ r ≡ dffAt (now (from .entry)) v ⌝ }
 {
-    is_flip_flop(kind_of(kind_at(from, v)))
+    is_flip_flop_code(kind_at(from, v))
 }
 
 // What node v shows: a flip-flop its state, any other gate its value.

@@ -1,37 +1,61 @@
 // One cycle of a network that stands in a work area: its outputs' bytes, and the state bytes of its flip-flops.
-ghost use mathlib.Core.Path.{_≡_};
 ghost use lib.ListN.{length};
-ghost use Rattle.tables.specs.Layout.{netOf};
-ghost use Rattle.evaluate.specs.Cycle.{Ready, Cycled};
-use crate::cycle::forward;
-use crate::cycle::put_outputs;
-use crate::cycle::put_states;
+ghost use Rattle.model.specs.Answers.{unless};
+ghost use Rattle.model.specs.Evaluate.{cycleRefusal};
+ghost use Rattle.model.specs.Entries.{evaluatedOf};
+ghost use Rattle.tables.specs.Holding.{networkOf};
+ghost use Rattle.tables.specs.Working.{Answered2};
+ghost use Rattle.evaluate.specs.Cycle.{Runs, Ready, Cycled};
+use crate::checks::refusal;
+use crate::passes::forward;
+use crate::passes::put_outputs;
+use crate::passes::put_states;
 use crate::values::VALUES;
 use crate::values::put_inputs;
+use answers::Answer;
+use tables::counts::Counts;
 use tables::scratch::put_word;
 
 pub mod checks;
-pub mod cycle;
 pub mod gate;
+pub mod passes;
 pub mod values;
 
-// The network of i inputs, n nodes and o outputs in `from`; the values of its nodes go to `to`, behind a network.
-pub fn evaluate(
+// The cycle itself, of bytes that no number refuses.
+fn cycle(
     from: &[u32],
     to: &mut [u32],
+    counts: Counts,
     inputs: &[u8],
     state: &mut [u8],
     outputs: &mut [u8],
-    i: usize,
-    n: usize,
-    o: usize,
 )
-    requires { ⌜ Ready (now from) (now to) (now inputs) (now state) (now outputs) i n o ⌝ }
-    ensures { λ _. ⌜ Cycled (netOf (now (from .entry)) i n o) (now (inputs .entry)) (now (state .entry)) (now (outputs .entry)) (now (to .entry)) (now (state .exit)) (now (outputs .exit)) (now (to .exit)) ⌝ }
+    requires { ⌜ Ready (now from) (now to) counts (now inputs) (now state) (now outputs) ⌝ }
+    ensures { λ _. ⌜ Cycled (networkOf (now (from .entry)) counts) (now (inputs .entry)) (now (state .entry)) (now (outputs .entry)) (now (state .exit)) (now (outputs .exit)) ⌝ }
 {
     put_word(to, VALUES, 0, 0);
-    put_inputs(to, inputs, i);
-    forward(from, to, state, n);
-    put_outputs(from, to, outputs, o);
-    put_states(from, to, state, n);
+    put_inputs(to, inputs, counts.inputs);
+    forward(from, to, state, counts.nodes);
+    put_outputs(from, to, outputs, counts.outs);
+    put_states(from, to, state, counts.nodes);
+}
+
+// The network in `from`, sorted; the values of the cycle go to `to`, behind a network. 13, 14, or the cycle.
+pub fn evaluate(
+    from: &[u32],
+    to: &mut [u32],
+    counts: Counts,
+    inputs: &[u8],
+    state: &mut [u8],
+    outputs: &mut [u8],
+) -> Answer
+    requires { ⌜ Runs (now from) (now to) counts ⌝ }
+    ensures { λ r. ⌜ Answered2 (unless (cycleRefusal (networkOf (now (from .entry)) counts) (now (inputs .entry)) (now (state .entry)) (length (now (outputs .entry)))) (evaluatedOf (networkOf (now (from .entry)) counts) (now (inputs .entry)) (now (state .entry)))) (now (outputs .entry)) (now (state .entry)) r (now (outputs .exit)) (now (state .exit)) ⌝ }
+{
+    let n = refusal(from, counts, inputs, state, outputs.len());
+    if n != 0 {
+        return Answer::Refused(n);
+    }
+    cycle(from, to, counts, inputs, state, outputs);
+    Answer::Accepted(0)
 }

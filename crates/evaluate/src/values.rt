@@ -1,7 +1,7 @@
 // The values of a cycle, a word for each index that a signal can have: the constant's, the nodes', and from the far end the
 // inputs'. A signal's value is one reading.
 ghost use mathlib.Core.Path.{_≡_};
-ghost use Prim.Native.Nat.{ℕ, _+_, _<_, _≤_};
+ghost use Prim.Native.Nat.{_+_, _<_, _≤_};
 ghost use lib.ListN.{length};
 ghost use Rattle.laws.specs.Bools.{bit};
 ghost use Rattle.laws.specs.Lists.{tab};

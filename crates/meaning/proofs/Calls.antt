@@ -1,9 +1,9 @@
 -- n cycles by n calls of evaluate are a run of the model: an invariant over calls, for every image, input list and start.
 use mathlib.Core.Path.{_≡_, refl, sym, ap, ap₂, fun-ext, _∙_}
-use Prim.Native.Nat.{ℕ, zero, suc, _+_, _-_, _≤_, _<_}
+use Prim.Native.Nat.{ℕ, _+_, _-_, _≤_, _<_}
 use native.Mathlib.Omega.{arith}
 use native.Mathlib.Decide.{decLt}
-use mathlib.Core.Bool.{Bool, true, false, cond, _&&_, _||_}
+use mathlib.Core.Bool.{Bool, true, false, _&&_}
 use mathlib.Core.List.{List, [], _∷_, _++_, map}
 use lib.ListN.{length, getD, drop, replicate, length-append, length-drop, length-replicate, length-map, List·getD-append, List·getD-map}
 use lib.Seq.{getD-append-add, getD-drop}
@@ -11,14 +11,14 @@ use lib.Dec.{eqb, ltb}
 use borrow.Author.Tests.{eqb-true, ltb-false, le-ltb}
 use Rattle.answers.specs.declared.Answer.the-variants.{Accepted}
 use Rattle.laws.specs.Bools.{bit}
-use Rattle.laws.specs.Lists.{All, tab, someBelow}
+use Rattle.laws.specs.Lists.{All}
 use Rattle.laws.proofs.Bools.{or-left, or-right}
 use Rattle.laws.proofs.Choices.{by-bool}
 use Rattle.laws.proofs.Lists.{none-some}
 use Rattle.laws.proofs.Tabs.{length-tab, getD-tab}
 use Rattle.model.specs.Gate.{Net, isDff, gateAt, size}
 use Rattle.model.specs.Image.{netOf, sortedRefusalOf}
-use Rattle.model.specs.Evaluate.{at, outputs, next, evaluate, run, truth, truths, cycleValues, outputBytes, stateByte, stateBytes, cycleShort, inputAbove, stateAbove, cycleRefusal}
+use Rattle.model.specs.Evaluate.{at, outputs, next, run, truth, truths, cycleValues, outputBytes, stateByte, stateBytes, cycleShort, inputAbove, stateAbove, cycleRefusal}
 use Rattle.model.specs.Answers.{Outcome, refused, written, evaluated, answerOf, laidOver, areasShort, cleared, areaAfter, inAreas, unless}
 use Rattle.model.specs.Entries.{evaluatedOf, evaluateOutcome, calls}
 use Rattle.meaning.proofs.Runs.{beyond, next-beyond}

@@ -7,10 +7,8 @@ use native.Mathlib.Decide.{decLt}
 use mathlib.Core.Bool.{Bool, true, false, cond}
 use mathlib.Core.List.{List, [], _∷_, map}
 use lib.ListN.{List·getD-eq-default}
-use Rattle.kinds.specs.Kinds.{kindOf, isFlipFlop}
-use Rattle.laws.proofs.Choices.{by-bool}
+use Rattle.kinds.specs.Kinds.{kindOf}
 use Rattle.laws.proofs.Lists.{all-map, all-both}
-use Rattle.model.specs.Signal.{ref, rnode}
 use Rattle.model.specs.Gate.{Gate, Net, isDff, noGate, gateAt, size, wired, isTopoSorted}
 use Rattle.model.specs.Evaluate.{at, signalValue, nextState, Consistent, outputs, next, evaluate, Eval, Solves, runBy, run, runFromZero}
 use Rattle.model.proofs.Names.{Names, In, values-cong, Sorted, sorted, wired-ins, wired-out}

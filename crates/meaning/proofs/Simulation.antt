@@ -2,18 +2,18 @@
 use mathlib.Core.Path.{_≡_, refl, sym, ap, ap₂, _∙_}
 use Prim.Native.Nat.{ℕ, _<_}
 use native.Mathlib.Omega.{arith}
-use mathlib.Core.Bool.{Bool, true, false, cond}
+use mathlib.Core.Bool.{Bool, true, false}
 use mathlib.Core.List.{List, [], _∷_, map}
 use Rattle.kinds.specs.Kinds.{kindOf}
 use Rattle.laws.proofs.Choices.{by-bool}
-use Rattle.model.specs.Signal.{Ref, rzero, isInverted, ref, fromVar, remapOrder}
+use Rattle.model.specs.Signal.{rzero, isInverted, ref, fromVar, remapOrder}
 use Rattle.model.specs.Gate.{Gate, Net, isDff, remapGate, gateAt, size}
 use Rattle.model.specs.Evaluate.{at, valueOf, signalValue, gateValue, nextState, Consistent, outputs, next, Eval, Solves, runBy, afterBy, allZero}
 use Rattle.model.proofs.Names.{In, values-cong}
 use Rattle.model.proofs.Forward.{shows-dff, shows-comb}
 use Rattle.shape.specs.Forms.{Ranked}
 use Rattle.meaning.proofs.Values.{value-zero}
-use Rattle.meaning.proofs.Valuations.{value-node, pull, value-remap, values-remap, ConsistentOn, agree}
+use Rattle.meaning.proofs.Valuations.{value-node, pull, values-remap, ConsistentOn, agree}
 
 -- ---- what a pass owes
 

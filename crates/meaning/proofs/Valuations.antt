@@ -1,16 +1,16 @@
 -- Valuations: a remapped signal's value, and that a network without a combinational loop has one valuation only.
-use mathlib.Core.Path.{_≡_, refl, sym, ap, _∙_}
+use mathlib.Core.Path.{_≡_, refl, sym, _∙_}
 use Prim.Native.Nat.{ℕ, zero, suc, _<_}
 use native.Mathlib.Nat.{not-suc-le-zero, le-refl}
 use native.Mathlib.Omega.{arith}
-use mathlib.Core.Bool.{Bool, true, false}
-use mathlib.Core.List.{List, [], _∷_, map, map-map}
+use mathlib.Core.Bool.{Bool, true}
+use mathlib.Core.List.{List, map, map-map}
 use Rattle.laws.specs.Bools.{xor}
 use Rattle.laws.proofs.Choices.{by-bool}
 use Rattle.laws.proofs.Lists.{map-cong}
 use Rattle.model.specs.Signal.{Ref, rzero, rnode, rinput, isInverted, ref, fromVar, remapOrder, remapRef}
-use Rattle.model.specs.Gate.{Gate, Net, isDff, gateAt, size, isTopoSorted}
-use Rattle.model.specs.Evaluate.{refValue, signalValue, gateValue, shows, Consistent, evaluate}
+use Rattle.model.specs.Gate.{Net, isDff, gateAt, size, isTopoSorted}
+use Rattle.model.specs.Evaluate.{refValue, signalValue, shows, Consistent, evaluate}
 use Rattle.model.proofs.Words.{node-ref, node-inv}
 use Rattle.model.proofs.Names.{sorted}
 use Rattle.model.proofs.Forward.{shows-dff, shows-comb, gate-cong, evaluate-sorted}

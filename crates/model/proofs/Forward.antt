@@ -1,17 +1,16 @@
 -- The forward pass: on a sorted network every gate agrees with the values it gives.
 use mathlib.Core.Path.{_≡_, refl, sym, ap, _∙_}
-use Prim.Native.Nat.{ℕ, zero, suc, _+_, _≤_, _<_}
+use Prim.Native.Nat.{ℕ, zero, suc, _+_, _<_}
 use native.Mathlib.Nat.{not-suc-le-zero}
 use native.Mathlib.Omega.{arith}
-use native.Mathlib.Decide.{ℕ-discrete}
 use mathlib.Core.Bool.{Bool, true, false}
-use mathlib.Core.List.{List, [], _∷_, _++_, map}
+use mathlib.Core.List.{List, [], _∷_, _++_}
 use lib.ListN.{length, getD, length-append, List·getD-append}
 use lib.Seq.{getD-append-seam}
 use Rattle.kinds.specs.Kinds.{kindOf}
 use Rattle.laws.proofs.Choices.{by-bool}
-use Rattle.model.specs.Gate.{Gate, Net, isDff, noGate, gateAt, size, isTopoSorted}
-use Rattle.model.specs.Evaluate.{at, valueOf, signalValue, gateValue, shows, Consistent, forward, evaluate}
+use Rattle.model.specs.Gate.{Gate, Net, isDff, noGate, isTopoSorted}
+use Rattle.model.specs.Evaluate.{at, valueOf, gateValue, shows, Consistent, forward, evaluate}
 use Rattle.model.proofs.Names.{In, values-cong, Sorted, sorted}
 
 -- ---- what a node shows

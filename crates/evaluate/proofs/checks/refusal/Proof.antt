@@ -5,7 +5,7 @@ use Rattle.evaluate.proofs.checks.refusal.Statement.{statement}
 use Rattle.evaluate.proofs.checks.refusal.Tie as tie
 
 state-above-requires : tie.Need-state-above-requires
-state-above-requires c κs = let a = c .before .before .before .before .before .args in (search needs, search needs, st-long (a .inputs .now) (a .state .now) (a .room) (a .i) (a .n) (a .o) (c .before .if1 .left))
+state-above-requires c κs = let a = c .before .before .before .before .before .before .before .before .args in (search (needs, ladder), search needs, st-long (a .inputs .now) (a .state .now) (a .room) (a .counts .inputs) (a .counts .nodes) (a .counts .outs) (c .before .if1 .left))
 
 pub refusal-spec : {M : Type 1} → statement M
 refusal-spec =

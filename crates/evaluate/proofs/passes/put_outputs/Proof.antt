@@ -3,8 +3,8 @@ use Prim.Native.Nat.{_-_}
 use Rattle.evaluate.proofs.Turns.{Filled, turns}
 use Rattle.evaluate.specs.Values.{outputByte}
 use borrow.Author.Needs.{needs}
-use Rattle.evaluate.proofs.cycle.put_outputs.Statement.{statement}
-use Rattle.evaluate.proofs.cycle.put_outputs.Tie as tie
+use Rattle.evaluate.proofs.passes.put_outputs.Statement.{statement}
+use Rattle.evaluate.proofs.passes.put_outputs.Tie as tie
 
 abbrev Inv-loop : tie.InvT-loop
 Inv-loop from to outputs₀ o j₀ outputs j = Filled (outputByte from to) outputs₀ outputs j o

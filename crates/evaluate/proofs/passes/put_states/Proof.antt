@@ -3,8 +3,8 @@ use Prim.Native.Nat.{_-_}
 use Rattle.evaluate.proofs.Turns.{Filled, state-goes, turns}
 use Rattle.evaluate.specs.Values.{newByte}
 use borrow.Author.Needs.{needs}
-use Rattle.evaluate.proofs.cycle.put_states.Statement.{statement}
-use Rattle.evaluate.proofs.cycle.put_states.Tie as tie
+use Rattle.evaluate.proofs.passes.put_states.Statement.{statement}
+use Rattle.evaluate.proofs.passes.put_states.Tie as tie
 
 abbrev Inv-loop : tie.InvT-loop
 Inv-loop from to state₀ n v₀ state v = Filled (newByte from to state₀) state₀ state v n

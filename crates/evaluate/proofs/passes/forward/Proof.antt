@@ -8,8 +8,8 @@ use lib.ListN.{length}
 use Rattle.evaluate.specs.Values.{forwardTo}
 use borrow.Author.Needs.{needs}
 use Rattle.evaluate.proofs.Turns.{turns}
-use Rattle.evaluate.proofs.cycle.forward.Statement.{statement}
-use Rattle.evaluate.proofs.cycle.forward.Tie as tie
+use Rattle.evaluate.proofs.passes.forward.Statement.{statement}
+use Rattle.evaluate.proofs.passes.forward.Tie as tie
 
 abbrev Inv-loop : tie.InvT-loop
 Inv-loop from to₀ state n v₀ to v = (v ≤ n) × (length to ≡ length to₀) × (to ≡ forwardTo from state to₀ v)
