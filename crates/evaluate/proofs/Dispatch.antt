@@ -39,7 +39,7 @@ module _ (f t : List ℕ) (v first count c : ℕ) (g : Gated f t v) (p : first �
   fits = rw r (and-right (ltb (kindAt f v) 15) _ (g .fits))
 
   three : c ≡ 5 → countAt f v ≡ 3
-  unfolding fitsKind kindOf
+  unfolding kindOf
   three e = eqb-true (countAt f v) 3 (rw e at fits)
 
   pub mux-reads : (k : ℕ) → k ≡ 5 → c ≡ k → Reads f t first 3
@@ -54,7 +54,7 @@ module _ (f t : List ℕ) (v first count c : ℕ) (g : Gated f t v) (p : first �
     gate-reads = rw (p, q) (g .reads)
 
     pub lut-short : (k : ℕ) → k ≡ 14 → c ≡ k → count ≤ 6
-    unfolding fitsKind kindOf
+    unfolding kindOf
     lut-short k d e = let z : c ≡ 14 = e ∙ d in rw q (leb-true (countAt f v) 6 (rw z at fits))
 
     pub lut-value : (k : ℕ) (b : Bool) → k ≡ 14 → c ≡ k → b ≡ lutValue f t v first count → b ≡ gateValueAt f t v

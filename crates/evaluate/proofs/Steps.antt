@@ -12,7 +12,7 @@ use Rattle.answers.specs.declared.Answer.the-variants.{Accepted, Refused}
 use Rattle.kinds.specs.Kinds.{kindOf}
 use Rattle.laws.specs.Lists.{tab}
 use Rattle.laws.proofs.Bools.{and-left, and-right}
-use Rattle.model.specs.Gate.{Gate, Net, noGate, fitsCode, shaped}
+use Rattle.model.specs.Gate.{Gate, Net, fitsCode, shaped}
 use Rattle.model.specs.Gate as model
 use Rattle.model.specs.Evaluate.{evaluate, truths, cycleRefusal}
 use Rattle.model.specs.Answers.{laidOver, unless}
@@ -21,7 +21,7 @@ use Rattle.tables.specs.Layout.{kindAt, countAt, insAt, gateAt, netOf, store}
 use Rattle.tables.specs.Holding.{networkOf}
 use Rattle.tables.specs.Working.{Answered2}
 use Rattle.tables.specs.declared.counts.Counts.{Counts}
-use Rattle.tables.proofs.Nets.{shaped-at}
+use Rattle.shape.proofs.Named.{shaped-at}
 use Rattle.tables.proofs.Holding.{size-network, gate-network, length-insAt, length-outputsOf}
 use Rattle.evaluate.specs.Values.{valuesBase, valuesEnd, dffAt, inputsTo, forwardTo, outputByte, newByte, Passing, Putting}
 use Rattle.evaluate.specs.Cycle.{Runs, Ready, Cycled}
@@ -41,7 +41,7 @@ module _ (f t : List ℕ) (c : Counts) (ins st out : List ℕ) (r : Ready f t c 
   gate-fits : (v : ℕ) → v < c .nodes → fitsCode (kindAt f v) (countAt f v) ≡ true
   unfolding shaped gateAt
   gate-fits v h =
-      let a : shaped (model.gateAt (networkOf f c) v) ≡ true = shaped-at (networkOf f c .nodes) noGate (r .runs .held .valid .gates-shaped) v (rw (size-network f c) h) in
+      let a : shaped (model.gateAt (networkOf f c) v) ≡ true = shaped-at (networkOf f c .nodes) (r .runs .held .valid .gates-shaped) v (rw (size-network f c) h) in
       let b : shaped (gateAt f v) ≡ true = subst (λ (g : Gate). shaped g ≡ true) (gate-network f c v h) a in
       let d : fitsCode (kindAt f v) (length (insAt f v)) ≡ true = and-left _ _ b in
       rw (length-insAt f v) at d

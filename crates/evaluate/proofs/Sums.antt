@@ -110,7 +110,7 @@ module _ (g : ℕ → Bool) where
 
   -- every kind but Mux and Lut
   pub ones-value : (k : Kind) (n t : ℕ) → codeOf k ≢ 5 → codeOf k ≢ 14 → fitsKind k n ≡ true → valueOf k (tab g n) t ≡ onesValue k n (onesTo g n)
-  unfolding valueOf fitsKind
+  unfolding valueOf
   ones-value And2 n t p q f = all-ones n
   ones-value Xor2 n t p q f = odd-ones n
   ones-value And3 n t p q f = all-ones n

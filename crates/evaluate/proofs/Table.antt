@@ -13,21 +13,20 @@ use lib.Dec.{ltb}
 use borrow.Author.Tests.{ltb-true}
 use Rattle.kinds.specs.Kinds.{kindOf}
 use Rattle.laws.specs.Bools.{xor, bit}
-use Rattle.laws.specs.Lists.{tab}
-use Rattle.laws.proofs.Bools.{and-left, and-right}
+use Rattle.laws.specs.Lists.{All, tab}
+use Rattle.laws.proofs.Bools.{and-right}
 use Rattle.laws.proofs.Choices.{by-bool}
 use Rattle.laws.proofs.Lists.{all-at}
 use Rattle.laws.proofs.Tabs.{tab-ext, map-tab}
 use Rattle.model.specs.Signal.{isInverted, rnode, rinput, ref}
-use Rattle.model.specs.Gate.{Gate, Net, isDff, size, named, allNamed}
+use Rattle.model.specs.Gate.{Gate, Net, isDff, size, named}
 use Rattle.model.specs.Gate as model
 use Rattle.model.specs.Evaluate.{valueOf, refValue, signalValue, gateValue, shows, evaluate, outputs, next, nextState, truths, cycleValues, outputBytes, stateByte, stateBytes}
 use Rattle.model.proofs.Words.{constant-ref, var-ref, input-ref}
-use Rattle.model.proofs.Names.{Names, In, named-names, sorted, wired-gate, wired-outs}
+use Rattle.shape.proofs.Named.{Here, here-node, here-word, wired-ins, wired-outs, sorted-ins}
 use Rattle.model.proofs.Forward.{shows-dff, shows-comb, evaluate-sorted}
 use Rattle.tables.specs.Holding.{networkOf}
 use Rattle.tables.specs.declared.counts.Counts.{Counts}
-use Rattle.tables.proofs.Nets.{named-at}
 use Rattle.tables.proofs.Holding.{size-network, gate-network, getD-insAt, length-insAt, getD-outputsOf, length-outputsOf}
 use Rattle.tables.specs.Layout.{kindAt, firstAt, countAt, inputAt, lowAt, highAt, outputAt, insAt, gateAt, outputsOf, netOf, cell, store}
 use Rattle.tables.proofs.Places.{length-store, cell-store, cell-store-other}
@@ -45,9 +44,9 @@ pub record Valued (t : List ℕ) (i k : ℕ) (inp v : ℕ → Bool) : Type 0 whe
   pub inputs : (j : ℕ) → j < i → isOdd (cell t valuesBase (2047 - j)) ≡ inp j
   pub nodes : (m : ℕ) → m < k → isOdd (cell t valuesBase (m + 1)) ≡ v m
 
--- ---- a signal that names no others is read right
+-- ---- a signal that names one of them is read right
 
-module _ (t : List ℕ) (i k n : ℕ) (inp v : ℕ → Bool) (h : Valued t i k inp v) (few : i ≤ 1024) (low : k ≤ 512) where
+module _ (t : List ℕ) (i k : ℕ) (inp v : ℕ → Bool) (h : Valued t i k inp v) (few : i ≤ 1024) (low : k ≤ 512) where
   abbrev stored : ℕ → Bool
   stored s = isOdd (cell t valuesBase (slot s))
 
@@ -55,26 +54,26 @@ module _ (t : List ℕ) (i k n : ℕ) (inp v : ℕ → Bool) (h : Valued t i k i
   unfolding slot
   stored-at s p e = ap (λ j. isOdd (cell t valuesBase j)) e
 
-  stored-is : (s : ℕ) → named i n s ≡ true → Names (λ m. m < k) s → stored s ≡ refValue inp v (ref s)
+  stored-is : (s : ℕ) → Here i k s → stored s ≡ refValue inp v (ref s)
   unfolding named
-  stored-is s e below = elim (ℕ-discrete (s / 2) 0) [
+  stored-is s e = elim (ℕ-discrete (s / 2) 0) [
     | yes z ↦ stored-at s 0 (omega arith) ∙ h .none ∙ sym (ap (refValue inp v) (constant-ref s z))
     | no z ↦ elim (decLt s 2147483648) [
       | yes l ↦
           let r : ref s ≡ rnode (s / 2 - 1) = var-ref s (omega arith) l in
-          let b : s / 2 - 1 < k = below (s / 2 - 1) r in
+          let b : s / 2 - 1 < k = here-node i k s (s / 2 - 1) e r in
           stored-at s (s / 2 - 1 + 1) (omega arith) ∙ h .nodes (s / 2 - 1) b ∙ sym (ap (refValue inp v) r)
       | no l ↦
           let r : ref s ≡ rinput (2147483647 - s / 2) = input-ref s (omega arith) in
-          let w : s < 4294967296 = ltb-true s 4294967296 (and-left _ _ e) in
+          let w : s < 4294967296 = here-word i k s e in
           let b : 2147483647 - s / 2 < i = ltb-true (2147483647 - s / 2) i (rw r at (and-right (ltb s 4294967296) _ e)) in
           stored-at s (2047 - (2147483647 - s / 2)) (omega arith) ∙ h .inputs (2147483647 - s / 2) b ∙ sym (ap (refValue inp v) r)
     ]
   ]
 
-  pub value-is : (s : ℕ) → named i n s ≡ true → Names (λ m. m < k) s → valueAt t s ≡ signalValue inp v s
+  pub value-is : (s : ℕ) → Here i k s → valueAt t s ≡ signalValue inp v s
   unfolding valueAt signalValue
-  value-is s e below = ap (xor (isInverted s)) (stored-is s e below)
+  value-is s e = ap (xor (isInverted s)) (stored-is s e)
 
 -- ---- stores
 
@@ -144,33 +143,25 @@ module _ (f ins st : List ℕ) (c : Counts) where
   v = evaluate N inp (truths st)
 
   module _ (few : i ≤ 1024) (small : n ≤ 512) (w : model.wired N ≡ true) (s : model.isTopoSorted N ≡ true) where
-    -- the inputs of node m, one by one
-    input-named : (m j : ℕ) → m < n → j < countAt f m → named i n (inputAt f (firstAt f m + j)) ≡ true
-    unfolding networkOf netOf gateAt
-    input-named m j h l =
-        let a : allNamed i (size N) (model.gateAt N m .ins) ≡ true = wired-gate N w m (rw (size-network f c) h) in
-        let b : allNamed i n (insAt f m) ≡ true = rw (size-network f c, ap (λ (g : Gate). g .ins) (gate-network f c m h)) at a in
-        rw (getD-insAt f m j l) at (named-at i n (insAt f m) b j (rw length-insAt l))
-
-    input-below : (m j : ℕ) → m < n → dffAt f m ≡ false → j < countAt f m → Names (λ x. x < m) (inputAt f (firstAt f m + j))
-    unfolding gateAt
-    input-below m j h d l =
-        let a : In (λ x. x < m) (model.gateAt N m .ins) = sorted N s m (rw (size-network f c) h) (dff-is f c m h ∙ d) in
-        let b : In (λ x. x < m) (insAt f m) = subst (λ (g : Gate). In (λ x. x < m) (g .ins)) (gate-network f c m h) a in
-        subst (Names (λ x. x < m)) (getD-insAt f m j l) (all-at (Names (λ x. x < m)) (insAt f m) 0 b j (rw length-insAt l))
-
-    -- the list of a gate's inputs' values
-    inputs-are : (t : List ℕ) (m k : ℕ) → m < n → k ≤ 512 → Valued t i k inp v → ((j : ℕ) → j < countAt f m → Names (λ x. x < k) (inputAt f (firstAt f m + j)))
+    -- the values of a gate's inputs, which name nodes below k
+    inputs-are : (t : List ℕ) (m k : ℕ) → k ≤ 512 → Valued t i k inp v → All (Here i k) (insAt f m)
         → tab (inputValue f t (firstAt f m)) (countAt f m) ≡ map (signalValue inp v) (insAt f m)
     unfolding insAt inputValue
-    inputs-are t m k h low hold below =
-        tab-ext _ _ (countAt f m) (λ j l. value-is t i k n inp v hold few low (inputAt f (firstAt f m + j)) (input-named m j h l) (below j l))
+    inputs-are t m k low hold named =
+        tab-ext _ _ (countAt f m)
+        (λ j l. value-is t i k inp v hold few low (inputAt f (firstAt f m + j))
+        (rw (getD-insAt f m j l) at (all-at (Here i k) (insAt f m) 0 named j (rw length-insAt l))))
         ∙ sym (map-tab (signalValue inp v) (λ j. inputAt f (firstAt f m + j)) (countAt f m))
 
+    ins-of : (m k : ℕ) → m < n → All (Here i k) (model.gateAt N m .ins) → All (Here i k) (insAt f m)
+    unfolding gateAt
+    ins-of m k h a = subst (λ (g : Gate). All (Here i k) (g .ins)) (gate-network f c m h) a
+
     gate-value : (t : List ℕ) (m : ℕ) → m < n → Valued t i m inp v → dffAt f m ≡ false → gateValueAt f t m ≡ gateValue inp v (gateAt f m)
-    unfolding gateValueAt gateValue gateAt
+    unfolding gateValueAt gateValue gateAt networkOf netOf
     gate-value t m h hold d =
-        ap (λ l. valueOf (kindOf (kindAt f m)) l (lowAt f m + 2 ^ 32 * highAt f m)) (inputs-are t m m h (omega arith) hold (λ j l. input-below m j h d l))
+        ap (λ l. valueOf (kindOf (kindAt f m)) l (lowAt f m + 2 ^ 32 * highAt f m))
+        (inputs-are t m m (omega arith) hold (ins-of m m h (sorted-ins N w s m (rw (size-network f c) h) (dff-is f c m h ∙ d))))
 
     shown-is : (t : List ℕ) (m : ℕ) → m < n → Valued t i m inp v → shownAt f t st m ≡ v m
     unfolding shownAt
@@ -191,26 +182,27 @@ module _ (f ins st : List ℕ) (c : Counts) where
 
     -- ---- the bytes, by a table that holds every node's value
 
-    output-named : (j : ℕ) → j < c .outs → named i n (outputAt f j) ≡ true
-    unfolding networkOf netOf
-    output-named j l =
-        let a : allNamed i (size N) (outputsOf f (c .outs)) ≡ true = wired-outs N w in
-        rw (getD-outputsOf f (c .outs) j l) at (named-at i n (outputsOf f (c .outs)) (rw (size-network f c) at a) j (rw length-outputsOf l))
-
     module _ (t : List ℕ) (hold : Valued t i n inp v) where
+      output-is : (j : ℕ) → j < c .outs → valueAt t (outputAt f j) ≡ signalValue inp v (outputAt f j)
+      unfolding networkOf netOf
+      output-is j l =
+          let a : All (Here i (size N)) (outputsOf f (c .outs)) = wired-outs N w in
+          let b : All (Here i n) (outputsOf f (c .outs)) = rw (size-network f c) at a in
+          value-is t i n inp v hold few small (outputAt f j) (rw (getD-outputsOf f (c .outs) j l) at (all-at (Here i n) (outputsOf f (c .outs)) 0 b j (rw length-outputsOf l)))
+
       pub outputs-are : tab (outputByte f t) (c .outs) ≡ outputBytes N ins st
       unfolding outputByte outputBytes outputs cycleValues networkOf netOf outputsOf
       outputs-are =
-          tab-ext _ _ (c .outs) (λ j l. ap bit (value-is t i n n inp v hold few small (outputAt f j) (output-named j l) (named-names i n (outputAt f j) (output-named j l))))
+          tab-ext _ _ (c .outs) (λ j l. ap bit (output-is j l))
           ∙ sym (map-tab bit (λ j. signalValue inp v (outputAt f j)) (c .outs))
           ∙ ap (map bit) (sym (map-tab (signalValue inp v) (outputAt f) (c .outs)))
 
       new-is : (m : ℕ) → m < n → countAt f m ≡ 3 → newState f t (firstAt f m) (truths st m) ≡ nextState (map (signalValue inp v) (gateAt f m .ins)) (truths st m)
-      unfolding newState gateAt tab
+      unfolding newState gateAt tab networkOf netOf
       new-is m h three =
-          ap (λ l. nextState l (truths st m))
-          (ap (tab (inputValue f t (firstAt f m))) (sym three)
-          ∙ inputs-are t m n h small hold (λ j l. named-names i n (inputAt f (firstAt f m + j)) (input-named m j h l)))
+          let a : All (Here i (size N)) (model.gateAt N m .ins) = wired-ins N w m (rw (size-network f c) h) in
+          let b : All (Here i n) (model.gateAt N m .ins) = rw (size-network f c) at a in
+          ap (λ l. nextState l (truths st m)) (ap (tab (inputValue f t (firstAt f m))) (sym three) ∙ inputs-are t m n small hold (ins-of m n h b))
 
       byte-is : (m : ℕ) → m < n → (dffAt f m ≡ true → countAt f m ≡ 3) → newByte f t st m ≡ stateByte N ins st m
       unfolding newByte stateByte cycleValues next

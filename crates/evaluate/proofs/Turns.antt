@@ -221,7 +221,6 @@ clash e = let z : _≡_ {A = ℕ} 0 1 = cc in absurd (omega arith)
 
 -- a flip-flop has three inputs
 pub three-inputs : (k : Kind) (n : ℕ) → isFlipFlop k ≡ true → fitsKind k n ≡ true → n ≡ 3
-unfolding fitsKind
 three-inputs Dff n d f = eqb-true n 3 f
 three-inputs And2 n d f = clash d
 three-inputs Xor2 n d f = clash d
