@@ -16,7 +16,7 @@ use Rattle.model.specs.Gate.{Gate, Net, fitsCode, shaped}
 use Rattle.model.specs.Gate as model
 use Rattle.model.specs.Evaluate.{evaluate, truths, cycleRefusal}
 use Rattle.model.specs.Answers.{laidOver, unless}
-use Rattle.model.specs.Entries.{evaluatedOf}
+use Rattle.model.specs.Entries.{evaluatedOf, cycleOutcome}
 use Rattle.tables.specs.Layout.{kindAt, countAt, insAt, gateAt, netOf, store}
 use Rattle.tables.specs.Holding.{networkOf}
 use Rattle.tables.specs.Working.{Answered2}
@@ -94,13 +94,13 @@ ready-when f t c ins st out n r e z =
     }
 
 module _ (N : Net) (ins st out : List ℕ) (n : ℕ) (e : n ≡ cycleRefusal N ins st (length out)) where
-  pub answered-number : n ≢ 0 → Answered2 (unless (cycleRefusal N ins st (length out)) (evaluatedOf N ins st)) out st (Refused n) out st
-  unfolding unless
+  pub answered-number : n ≢ 0 → Answered2 (cycleOutcome N ins st (length out)) out st (Refused n) out st
+  unfolding cycleOutcome unless
   answered-number d = rw (← e, ne-eqb n 0 d) (record { first = record { answer = refl; result = refl }; second-is = refl })
 
   pub answered-cycle : (st′ out′ : List ℕ) → n ≡ 0 → Cycled N ins st out st′ out′
-      → Answered2 (unless (cycleRefusal N ins st (length out)) (evaluatedOf N ins st)) out st (Accepted 0) out′ st′
-  unfolding unless evaluatedOf
+      → Answered2 (cycleOutcome N ins st (length out)) out st (Accepted 0) out′ st′
+  unfolding cycleOutcome unless evaluatedOf
   answered-cycle st′ out′ z h =
       rw (← e, eq-eqb n 0 z) (record { first = record { answer = refl; result = h .outputs }; second-is = h .states })
 

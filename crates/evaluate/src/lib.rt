@@ -1,8 +1,6 @@
 // One cycle of a network that stands in a work area: its outputs' bytes, and the state bytes of its flip-flops.
 ghost use lib.ListN.{length};
-ghost use Rattle.model.specs.Answers.{unless};
-ghost use Rattle.model.specs.Evaluate.{cycleRefusal};
-ghost use Rattle.model.specs.Entries.{evaluatedOf};
+ghost use Rattle.model.specs.Entries.{cycleOutcome};
 ghost use Rattle.tables.specs.Holding.{networkOf};
 ghost use Rattle.tables.specs.Working.{Answered2};
 ghost use Rattle.evaluate.specs.Cycle.{Runs, Ready, Cycled};
@@ -50,7 +48,7 @@ pub fn evaluate(
     outputs: &mut [u8],
 ) -> Answer
     requires { ⌜ Runs (now from) (now to) counts ⌝ }
-    ensures { λ r. ⌜ Answered2 (unless (cycleRefusal (networkOf (now (from .entry)) counts) (now (inputs .entry)) (now (state .entry)) (length (now (outputs .entry)))) (evaluatedOf (networkOf (now (from .entry)) counts) (now (inputs .entry)) (now (state .entry)))) (now (outputs .entry)) (now (state .entry)) r (now (outputs .exit)) (now (state .exit)) ⌝ }
+    ensures { λ r. ⌜ Answered2 (cycleOutcome (networkOf (now (from .entry)) counts) (now (inputs .entry)) (now (state .entry)) (length (now (outputs .entry)))) (now (outputs .entry)) (now (state .entry)) r (now (outputs .exit)) (now (state .exit)) ⌝ }
 {
     let n = refusal(from, counts, inputs, state, outputs.len());
     if n != 0 {

@@ -20,7 +20,7 @@ use Rattle.model.specs.Gate.{Net, isDff, gateAt, size}
 use Rattle.model.specs.Image.{netOf, sortedRefusalOf}
 use Rattle.model.specs.Evaluate.{at, outputs, next, run, truth, truths, cycleValues, outputBytes, stateByte, stateBytes, cycleShort, inputAbove, stateAbove, cycleRefusal}
 use Rattle.model.specs.Answers.{Outcome, refused, written, evaluated, answerOf, laidOver, areasShort, cleared, areaAfter, inAreas, unless}
-use Rattle.model.specs.Entries.{evaluatedOf, evaluateOutcome, calls}
+use Rattle.model.specs.Entries.{evaluatedOf, cycleOutcome, evaluateOutcome, calls}
 use Rattle.meaning.proofs.Runs.{beyond, next-beyond}
 
 -- an outcome that answers 0, and the outputs' bytes that it gives
@@ -47,12 +47,12 @@ unless-good n o g = by-bool (eqb n 0) (λ e. (eqb-true n 0 e, rw e at g)) (λ e.
 
 outcome-is : (img x state out a b : List ℕ) → areasShort a b ≡ false → sortedRefusalOf img ≡ 0 → cycleRefusal (netOf img) x state (length out) ≡ 0
     → evaluateOutcome img x state out a b ≡ evaluatedOf (netOf img) x state
-unfolding evaluateOutcome inAreas unless
+unfolding evaluateOutcome cycleOutcome inAreas unless
 outcome-is img x state out a b p q r = rw (p, q, r)
 
 pub accepted-is : (img x state out a b : List ℕ) → Good (evaluateOutcome img x state out a b)
     → evaluateOutcome img x state out a b ≡ evaluatedOf (netOf img) x state
-unfolding evaluateOutcome
+unfolding evaluateOutcome cycleOutcome
 accepted-is img x state out a b g =
     let p = areas-good a b _ g in
     let q = unless-good (sortedRefusalOf img) _ (p .1) in

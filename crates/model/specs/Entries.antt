@@ -20,10 +20,13 @@ readOutcome img out a b = inAreas a b (inRoom (length out) 0 (unless (refusalOf 
 unfoldable pub evaluatedOf : Net → List ℕ → List ℕ → Outcome
 evaluatedOf N inputs state = evaluated (outputBytes N inputs state) (stateBytes N inputs state)
 
+-- 13; 14; the cycle. `room` is the length lent for the outputs
+unfoldable pub cycleOutcome : Net → List ℕ → List ℕ → ℕ → Outcome
+cycleOutcome N inputs state room = unless (cycleRefusal N inputs state room) (evaluatedOf N inputs state)
+
 -- evaluate: 1; 2 to 7; 13; 14. One cycle: the outputs' bytes, and the state's bytes for all nodes
 unfoldable pub evaluateOutcome : List ℕ → List ℕ → List ℕ → List ℕ → List ℕ → List ℕ → Outcome
-evaluateOutcome img inputs state out a b =
-    inAreas a b (unless (sortedRefusalOf img) (unless (cycleRefusal (netOf img) inputs state (length out)) (evaluatedOf (netOf img) inputs state)))
+evaluateOutcome img inputs state out a b = inAreas a b (unless (sortedRefusalOf img) (cycleOutcome (netOf img) inputs state (length out)))
 
 -- calls of evaluate, one for each vector of input bytes, each with what the call before left in the buffers and the areas
 unfoldable pub calls : List ℕ → List (List ℕ) → List ℕ → List ℕ → List ℕ → List ℕ → List Outcome
