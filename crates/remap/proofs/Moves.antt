@@ -17,15 +17,14 @@ use Rattle.laws.proofs.Tabs.{map-tab}
 use Rattle.model.specs.Signal.{isVar, remapOrder}
 use Rattle.model.specs.Gate.{Gate, remapGate}
 use Rattle.model.specs.Network.{sumTo}
-use Rattle.shape.specs.Forms.{Below}
-use Rattle.shape.proofs.Wires.{var-is, var-low}
+use Rattle.shape.proofs.Wires.{var-low}
 use Rattle.tables.specs.Layout.{netSize, span, kindAt, firstAt, countAt, inputAt, insAt, lowAt, highAt, outputAt, gateAt, nodesOf, putGate, putInput, putOutput, putTable, cell, trBase, orderBase}
 use Rattle.tables.specs.Building.{putInputs, putNode, putOutputs, Packed}
 use Rattle.tables.specs.declared.counts.Counts.{Counts}
 use Rattle.tables.proofs.Gates.{gate≡}
 use Rattle.tables.proofs.Building.{length-putInputs, putInputs-next, cell-putInputs, length-putNode, cell-putNode, nodesOf-none, nodesOf-putNode, packed-none, packed-putNode, length-putOutputs, putOutputs-next, cell-putOutputs}
 use Rattle.remap.specs.Tables.{Sound}
-use Rattle.remap.specs.Remapping.{inputsBy, outputsBy, CanMap, Copying, Placing, Put, inputsOf, Mapping, gateBy, Moving, Mapped, OutMapping}
+use Rattle.remap.specs.Remapping.{inputsBy, outputsBy, Copying, Placing, Put, inputsOf, Mapping, gateBy, Moving, Mapped, OutMapping}
 
 -- ---- one signal, through the mapping behind the network
 
@@ -33,18 +32,6 @@ pub node-low : (s : ℕ) → isVar s ≡ true → 2 ≤ s
 node-low s h = var-low s h
 
 module _ (l : List ℕ) (s : ℕ) where
-  part-length : span ≤ length l → length (take (length l - 4672) (drop 4672 l)) ≡ length l - 4672
-  part-length h = ap length (take-all (length l - 4672) (drop 4672 l) (rw length-drop (le-refl _))) ∙ length-drop 4672 l
-
-  pub map-part : CanMap l s → s < 2147483648 → s / 2 ≤ length (take (length l - 4672) (drop 4672 l))
-  map-part C h =
-      let r = C .room in
-      rw (part-length r)
-      (elim (decLt s 2) [
-        | yes p ↦ omega arith
-        | no p ↦ omega (arith, C .named (var-is s (omega arith) h))
-      ])
-
   part-map : (λ v. getD (take (length l - 4672) (drop 4672 l)) v 0) ≡ cell l trBase
   unfolding cell
   part-map = fun-ext (λ v.
@@ -53,16 +40,11 @@ module _ (l : List ℕ) (s : ℕ) where
   pub map-done : (r : ℕ) → r ≡ remapOrder (λ v. getD (take (length l - 4672) (drop 4672 l)) v 0) s → r ≡ remapOrder (cell l trBase) s
   map-done r e = e ∙ ap (λ (t : ℕ → ℕ). remapOrder t s) part-map
 
-pub ruleset maps = (map-part, map-done)
-
 -- ---- the inputs of a gate
 
 module _ (from l : List ℕ) (f at n : ℕ) (C : Copying from l f at n) (e : List ℕ) (j : ℕ) (q : e ≡ putInputs l at (inputsBy from (cell l trBase) f) j) (h : j < n) where
-  pub copy-turn : (s : ℕ) → s ≡ inputAt from (f + j) → CanMap e s
-  copy-turn s y = record {
-    room = let r = C .room in rw q (omega (arith, length-putInputs l at (inputsBy from (cell l trBase) f) j));
-    named = rw y (C .named j h);
-  }
+  pub copy-turn : span ≤ length e
+  copy-turn = let r = C .room in rw q (omega (arith, length-putInputs l at (inputsBy from (cell l trBase) f) j))
 
   pub copy-next : (s x : ℕ) (e′ : List ℕ) → s ≡ inputAt from (f + j) → x ≡ remapOrder (cell e trBase) s → e′ ≡ putInput e (at + j) x
       → e′ ≡ putInputs l at (inputsBy from (cell l trBase) f) (j + 1)
@@ -92,7 +74,6 @@ module _ (from l : List ℕ) (c : Counts) (v k at : ℕ) (P : Placing from l c v
     room = P .room;
     fits = rw (p, q) (P .ok .ends v (P .node));
     into = rw q (P .into);
-    named = λ j h e. let few = P .ok .few in rw p (omega (arith, P .ok .named v j (P .node) (rw q at h) (rw p at e)));
   }
 
   pub place-node : v < 512
@@ -178,11 +159,8 @@ pub ruleset moves = (move-none, move-order, move-place, move-next, move-done)
 -- ---- the outputs
 
 module _ (from l : List ℕ) (o : ℕ) (O : OutMapping from l o) (e : List ℕ) (j : ℕ) (q : e ≡ putOutputs l (outputsBy from (cell l trBase)) j) (h : j < o) where
-  pub out-turn : (s : ℕ) → s ≡ outputAt from j → CanMap e s
-  out-turn s y = record {
-    room = let r = O .room in rw q (omega (arith, length-putOutputs l (outputsBy from (cell l trBase)) j));
-    named = rw y (O .named j h);
-  }
+  pub out-turn : span ≤ length e
+  out-turn = let r = O .room in rw q (omega (arith, length-putOutputs l (outputsBy from (cell l trBase)) j))
 
   pub out-next : (s x : ℕ) (e′ : List ℕ) → s ≡ outputAt from j → x ≡ remapOrder (cell e trBase) s → e′ ≡ putOutput e j x
       → e′ ≡ putOutputs l (outputsBy from (cell l trBase)) (j + 1)

@@ -90,7 +90,6 @@ module _ (from l : List ℕ) (c : Counts) (m : ℕ) (O : Orders from l c m) wher
         long = O .ok .long;
         room = E .moved .room;
         few = rw q (O .ok .outs-few);
-        named = λ j h x. let n = O .ok .few in omega (arith, O .ok .outs-named j (rw q at h) x);
       }
 
       module _ (g : List ℕ) (p : g ≡ putOutputs e (outputsBy from (cell e trBase)) (c .outs)) where

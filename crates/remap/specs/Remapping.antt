@@ -7,7 +7,7 @@ use Rattle.laws.specs.Lists.{tab}
 use Rattle.model.specs.Signal.{remapOrder}
 use Rattle.model.specs.Gate.{Gate, size, remapGate}
 use Rattle.model.specs.Network.{sumTo, translation, remap}
-use Rattle.shape.specs.Forms.{Below, Order}
+use Rattle.shape.specs.Forms.{Order}
 use Rattle.tables.specs.Layout.{netSize, span, kindAt, firstAt, countAt, inputAt, lowAt, highAt, outputAt, gateAt, nodesOf, cell, trBase, orderBase}
 use Rattle.tables.specs.Building.{putNode, Packed}
 use Rattle.tables.specs.Holding.{networkOf, Holds}
@@ -21,16 +21,11 @@ inputsBy from t f j = remapOrder t (inputAt from (f + j))
 unfoldable pub outputsBy : List ℕ → (ℕ → ℕ) → ℕ → ℕ
 outputsBy from t j = remapOrder t (outputAt from j)
 
-pub record CanMap (l : List ℕ) (s : ℕ) : Type 0 where
-  pub room : span ≤ length l
-  pub named : Below 512 s
-
 pub record Copying (from l : List ℕ) (f at n : ℕ) : Type 0 where
   pub long : netSize ≤ length from
   pub room : span ≤ length l
   pub fits : f + n ≤ 2048
   pub into : at + n ≤ 2048
-  pub named : (j : ℕ) → j < n → Below 512 (inputAt from (f + j))
 
 -- ---- one gate: node v of `from` as node k
 
@@ -77,7 +72,6 @@ pub record OutMapping (from l : List ℕ) (o : ℕ) : Type 0 where
   pub long : netSize ≤ length from
   pub room : span ≤ length l
   pub few : o ≤ 64
-  pub named : (j : ℕ) → j < o → Below 512 (outputAt from j)
 
 -- ---- the mapping of n old nodes
 

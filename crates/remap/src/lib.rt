@@ -4,9 +4,9 @@ ghost use mathlib.Core.Path.{_≡_};
 ghost use Prim.Native.Nat.{ℕ, _+_, _-_, _*_, _/_, _<_, _≤_};
 ghost use lib.ListN.{length};
 ghost use Rattle.model.specs.Signal.{remapOrder};
-ghost use Rattle.tables.specs.Layout.{cell, trBase};
+ghost use Rattle.tables.specs.Layout.{span, cell, trBase};
 ghost use Rattle.tables.specs.Building.{putInputs, putOutputs};
-ghost use Rattle.remap.specs.Remapping.{inputsBy, outputsBy, CanMap, Copying, Placing, Put, Mapping, Mapped, OutMapping, Numbering, Numbered, Orders, Remapped};
+ghost use Rattle.remap.specs.Remapping.{inputsBy, outputsBy, Copying, Placing, Put, Mapping, Mapped, OutMapping, Numbering, Numbered, Orders, Remapped};
 use crate::nodes::clear_table;
 use signal::Signal;
 use tables::counts::Counts;
@@ -30,7 +30,7 @@ pub mod nodes;
 
 // A signal through the mapping.
 pub fn translate(to: &[u32], s: u32) -> u32
-    requires { ⌜ CanMap (now to) s ⌝ }
+    requires { ⌜ span ≤ length (now to) ⌝ }
     ensures { λ r. ⌜ r ≡ remapOrder (cell (now (to .entry)) trBase) s ⌝ }
 {
     let start = TR;

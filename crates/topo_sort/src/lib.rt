@@ -28,7 +28,7 @@ fn topo_order(from: &[u32], to: &mut [u32], c: Counts) -> Sorting
 {
     count_deps(from, to, c);
     let sp = start(from, to, c);
-    let pos = visit_all(from, to, c, sp);
+    let pos = visit_all(from, to, c, sp, c.nodes);
     let end = put_flip_flops(from, to, c, pos);
     if 0 < end {
         return Sorting::Looped;

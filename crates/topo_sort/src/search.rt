@@ -107,17 +107,17 @@ fn visit(from: &[u32], to: &mut [u32], c: Counts, sp: usize, pos: usize) -> Turn
     Turn { sp: end, pos: next }
 }
 
-// The order's table is filled from its end; where the order then begins.
-pub fn visit_all(from: &[u32], to: &mut [u32], c: Counts, sp: usize) -> usize
-    requires { ⌜ Live (now from) (now to) c sp (c .nodes) ⌝ }
+// The order's table is filled from pos down; where the order then begins.
+pub fn visit_all(from: &[u32], to: &mut [u32], c: Counts, sp: usize, pos: usize) -> usize
+    requires { ⌜ Live (now from) (now to) c sp pos ⌝ }
     ensures { λ r. ⌜ Flips (now (from .entry)) (now (to .exit)) c (c .nodes) r ⌝ }
 {
     let mut top: usize = sp;
-    let mut pos: usize = c.nodes;
+    let mut at: usize = pos;
     while 0 < top {
-        let t = visit(from, to, c, top, pos);
+        let t = visit(from, to, c, top, at);
         top = t.sp;
-        pos = t.pos;
+        at = t.pos;
     }
-    pos
+    at
 }

@@ -7,10 +7,10 @@ use Rattle.topo_sort.proofs.search.visit_all.Statement.{statement}
 use Rattle.topo_sort.proofs.search.visit_all.Tie as tie
 
 abbrev Inv-loop : tie.InvT-loop
-Inv-loop from to₀ c sp top₀ pos₀ to top pos = (length to ≡ length to₀) × Live from to c top pos
+Inv-loop from to₀ c sp pos top₀ at₀ to top at = (length to ≡ length to₀) × Live from to c top at
 
 abbrev μ-loop : tie.MeasureT-loop
-μ-loop from to₀ c sp top₀ pos₀ to top pos = leftOf from to c top
+μ-loop from to₀ c sp pos top₀ at₀ to top at = leftOf from to c top
 
 pub visit-all-spec : {M : Type 1} → statement M
 visit-all-spec =
