@@ -1,14 +1,19 @@
 -- The best pair does not depend on the order of the search: it is the one pair that no pair beats. So a search in another order, or over kept counts, may take its place.
-use Prim.Native.Nat.{ℕ, _<_, _≤_}
+use Prim.Native.Nat.{max, min, suc, zero, ℕ, _<_, _≤_}
 use mathlib.Core.Path.{ap, refl, subst, sym, _∙_, _≡_}
 use mathlib.Core.Logic.{inl, inr, ⊎-elim, _⊎_}
 use mathlib.Core.Bool.{false, true}
 use mathlib.Core.List.{List, [], _++_, _∷_}
 use native.Mathlib.Omega.{arith}
+use native.Mathlib.Nat.{le-refl}
 use native.Mathlib.Decide.{decLt}
-use borrow.Author.Tests.{le-ltb, lt-ltb}
+use lib.ListN.{length}
+use lib.Dec.{eqb}
+use borrow.Author.Tests.{eq-eqb, eqb-false, eqb-true, le-ltb, lt-ltb}
 use Rattle.laws.specs.Lists.{All}
-use Rattle.model.specs.Sharing.{Pair, Top, beats, consider, findBestPair, makePair, together, topIn, topOver, topWith}
+use Rattle.model.specs.Sharing.{Pair, State, Top, allPairs, beats, consider, findBestPair, greedy, holds, makePair, replacePair, together, topIn, topOver, topWith, total}
+use Rattle.laws.proofs.Choices.{by-bool}
+use Rattle.shape.proofs.FactoringFuel.{none-stays, none-turn, shrink-best, some-steps, two-here, two-ordered}
 
 -- x goes before y
 abbrev pub Before : Top → Top → Type 0
@@ -216,3 +221,40 @@ module _ (gs : List (List ℕ)) where
   -- no pair at all
   pub best-noPair : pairsIn gs ≡ [] → findBestPair gs ≡ noPair
   best-noPair e = best-fold ∙ rw e
+
+-- ---- where no pair is left, no list has two signals
+
+together-here : (p q : ℕ) (l : List ℕ) (gs : List (List ℕ)) → holds p q l ≡ true → 0 < together p q (l ∷ gs)
+unfolding together
+together-here p q l gs e = rw e (omega arith)
+
+together-there : (p q : ℕ) (l : List ℕ) (gs : List (List ℕ)) → together p q gs ≤ together p q (l ∷ gs)
+unfolding together
+together-there p q l gs = omega arith
+
+-- every pair of a list counts
+counts : (gs ls : List (List ℕ)) → ((p q : ℕ) → together p q ls ≤ together p q gs) → findBestPair gs .count ≡ 0 → Last gs (findBestPair gs) (pairsIn ls) → All (λ l. length l ≤ 1) ls
+counts gs [] up z h = tt
+counts gs ([] ∷ ls) up z h = (omega arith, counts gs ls (λ p q. omega (arith, up p q, together-there p q [] ls)) z h)
+counts gs ((a ∷ []) ∷ ls) up z h = (omega arith, counts gs ls (λ p q. omega (arith, up p q, together-there p q (a ∷ []) ls)) z h)
+counts gs ((a ∷ b ∷ l) ∷ ls) up z h =
+    let k = together-here (min a b) (max a b) (a ∷ b ∷ l) ls (two-ordered a b (a ∷ b ∷ l) (two-here a b (b ∷ l) (rw (eq-eqb b b refl))) .both) in
+    absurd (h .0 (inl (omega (arith, up (min a b) (max a b)))))
+
+pub none-two : (gs : List (List ℕ)) → findBestPair gs .count ≡ 0 → All (λ l. length l ≤ 1) gs
+none-two gs z = counts gs gs (λ p q. le-refl _) z (rw (best-fold gs) (fold-last gs noPair (pairsIn gs) .1))
+
+greedy-none : (f : ℕ) (s : State) → total (s .lists) ≤ f → findBestPair (greedy f s .lists) .count ≡ 0
+greedy-none zero s h = by-bool (eqb (findBestPair (s .lists) .count) 0)
+    (λ q. rw (none-turn s) (eqb-true _ _ q))
+    (λ q. absurd (omega (arith, shrink-best s (eqb-false _ _ q))))
+greedy-none (suc f) s h = by-bool (eqb (findBestPair (s .lists) .count) 0)
+    (λ q. rw (none-stays (suc f) s (eqb-true _ _ q)) (eqb-true _ _ q))
+    (λ q.
+    let d = eqb-false _ _ q in
+    rw (some-steps f s d) (greedy-none f (replacePair s (findBestPair (s .lists) .a) (findBestPair (s .lists) .b)) (omega (arith, shrink-best s d))))
+
+-- THE FUEL SUFFICES: at the end of the pairs no gate has two signals left
+pub allPairs-none-two : (s : State) → All (λ l. length l ≤ 1) (allPairs s .lists)
+unfolding allPairs
+allPairs-none-two s = none-two (greedy (total (s .lists)) s .lists) (greedy-none (total (s .lists)) s (le-refl _))

@@ -10,10 +10,12 @@ use native.Mathlib.Decide.{decLt}
 use lib.ListN.{length, length-append}
 use lib.Dec.{eqb}
 use borrow.Author.Tests.{eq-eqb, eqb-false, eqb-true, ne-eqb}
+use Rattle.laws.specs.Lists.{All}
 use Rattle.model.specs.Network.{has}
 use Rattle.model.specs.Sharing.{Pair, State, Top, allPairs, beats, consider, findBestPair, greedy, holds, makePair, replaceIn, replacePair, takeOut, together, topIn, topOver, topWith, total}
 use Rattle.laws.proofs.Bools.{and-comm, and-left, or-comm, or-true}
 use Rattle.laws.proofs.Choices.{by-bool}
+use Rattle.laws.proofs.Lists.{all-map}
 use Rattle.shape.proofs.FactoringLists.{takeOut-lt}
 
 takeOut-comm : (p q : ℕ) (l : List ℕ) → takeOut p q l ≡ takeOut q p l
@@ -42,20 +44,28 @@ two-cons p q x l t = record {
     go true false e = let z : _≡_ {A = ℕ} 0 1 = cc in absurd (omega arith)
     go false b e = let z : _≡_ {A = ℕ} 0 1 = cc in absurd (omega arith)
 
-two-here : (a b : ℕ) (l : List ℕ) → has b l ≡ true → Two a b (a ∷ l)
+pub two-here : (a b : ℕ) (l : List ℕ) → has b l ≡ true → Two a b (a ∷ l)
 unfolding takeOut holds
 two-here a b l h = record {
   fewer = rw (eq-eqb a a refl) (rw (takeOut-comm a b l) (omega (arith, takeOut-lt b a l h)));
   both = rw (eq-eqb a a refl) (rw h (or-true (eqb a b)));
 }
 
+pub two-ordered : (a b : ℕ) (l : List ℕ) → Two a b l → Two (min a b) (max a b) l
+two-ordered a b l t = elim (decLt b a) [
+  | yes k ↦ (let p : min a b ≡ b = omega arith in let q : max a b ≡ a = omega arith in rw (p, q) (two-comm a b l t))
+  | no k ↦ (let p : min a b ≡ a = omega arith in let q : max a b ≡ b = omega arith in rw (p, q) t)
+]
+
+-- one of the lists does
+abbrev pub TwoIn : ℕ → ℕ → List (List ℕ) → Type 0
+TwoIn p q [] = ⊥
+TwoIn p q (l ∷ gs) = Two p q l ⊎ TwoIn p q gs
+
 -- ---- replacing it makes the lists shorter
 
-pub Shrink : List (List ℕ) → ℕ → ℕ → Type 0
-Shrink gs p q = (z : ℕ) → total (map (replaceIn p q z) gs) < total gs
-
 module _ (p q z : ℕ) where
-  in-le : (l : List ℕ) → length (replaceIn p q z l) ≤ length l
+  pub in-le : (l : List ℕ) → length (replaceIn p q z l) ≤ length l
   unfolding replaceIn holds
   in-le l = by-bool (has p l && has q l) (λ e. rw (e, length-append) (omega (arith, takeOut-lt p q l (and-left _ _ e)))) (λ e. rw e (le-refl _))
 
@@ -68,68 +78,65 @@ module _ (p q z : ℕ) where
   all-le [] = le-refl _
   all-le (l ∷ gs) = omega (arith, in-le l, all-le gs)
 
-shrink-here : (p q : ℕ) (l : List ℕ) (gs : List (List ℕ)) → Two p q l → Shrink (l ∷ gs) p q
-unfolding total Shrink
-shrink-here p q l gs t z = omega (arith, in-lt p q z l t, all-le p q z gs)
+  shrinks : (gs : List (List ℕ)) → TwoIn p q gs → total (map (replaceIn p q z) gs) < total gs
+  unfolding total
+  shrinks [] t = absurd t
+  shrinks (l ∷ gs) (inl t) = omega (arith, in-lt l t, all-le gs)
+  shrinks (l ∷ gs) (inr t) = omega (arith, in-le l, shrinks gs t)
 
-shrink-there : (p q : ℕ) (l : List ℕ) (gs : List (List ℕ)) → Shrink gs p q → Shrink (l ∷ gs) p q
-unfolding total Shrink
-shrink-there p q l gs h z = omega (arith, in-le p q z l, h z)
-
-abbrev Up : List (List ℕ) → List (List ℕ) → Type 0
-Up gs [] = Unit
-Up gs (l ∷ ls) = ((p q : ℕ) → Two p q l → Shrink gs p q) × Up gs ls
-
-up-cons : (l : List ℕ) (gs ls : List (List ℕ)) → Up gs ls → Up (l ∷ gs) ls
-up-cons l gs [] u = tt
-up-cons l gs (m ∷ ls) u = ((λ p q t. shrink-there p q l gs (u .0 p q t)), up-cons l gs ls (u .1))
-
-up-all : (gs : List (List ℕ)) → Up gs gs
-up-all [] = tt
-up-all (l ∷ gs) = ((λ p q t. shrink-here p q l gs t), up-cons l gs gs (up-all gs))
-
--- ---- the findBestPair pair is such a pair
+-- ---- the best pair is such a pair
 
 module _ (gs : List (List ℕ)) where
-  pub Fine : Top → Type 0
-  Fine t = (t .count ≡ 0) ⊎ Shrink gs (t .a) (t .b)
+  -- what a list of gs holds, gs holds
+  abbrev Lifts : List ℕ → Type 0
+  Lifts l = (p q : ℕ) → Two p q l → TwoIn p q gs
 
-  fine-consider : (t : Top) (x : Pair) → Fine t → Shrink gs (x .fst) (x .snd) → Fine (consider gs t x)
+  Fine : Top → Type 0
+  Fine t = (t .count ≡ 0) ⊎ TwoIn (t .a) (t .b) gs
+
+  fine-consider : (t : Top) (x : Pair) → Fine t → TwoIn (x .fst) (x .snd) gs → Fine (consider gs t x)
   unfolding consider Fine
   fine-consider t x f h = by-bool (beats (together (x .fst) (x .snd) gs) (x .fst) (x .snd) t) (λ e. rw e (inr h)) (λ e. rw e f)
 
-  fine-with : (t : Top) (a : ℕ) (l : List ℕ) → ((b : ℕ) → has b l ≡ true → Shrink gs (min a b) (max a b)) → Fine t → Fine (topWith gs t a l)
+  fine-with : (t : Top) (a : ℕ) (l : List ℕ) → ((b : ℕ) → has b l ≡ true → TwoIn (min a b) (max a b) gs) → Fine t → Fine (topWith gs t a l)
   unfolding topWith
   fine-with t a [] h f = f
   fine-with t a (b ∷ l) h f =
       fine-with (consider gs t (makePair a b)) a l (λ c e. h c (rw e (or-true (eqb b c)))) (fine-consider t (makePair a b) f (h b (rw (eq-eqb b b refl))))
 
-  min-max : (a b : ℕ) (l : List ℕ) → ((p q : ℕ) → Two p q (a ∷ l) → Shrink gs p q) → has b l ≡ true → Shrink gs (min a b) (max a b)
-  min-max a b l up h = elim (decLt b a) [
-    | yes k ↦ (let p : min a b ≡ b = omega arith in let q : max a b ≡ a = omega arith in rw (p, q) (up b a (two-comm a b (a ∷ l) (two-here a b l h))))
-    | no k ↦ (let p : min a b ≡ a = omega arith in let q : max a b ≡ b = omega arith in rw (p, q) (up a b (two-here a b l h)))
-  ]
+  min-max : (a b : ℕ) (l : List ℕ) → Lifts (a ∷ l) → has b l ≡ true → TwoIn (min a b) (max a b) gs
+  min-max a b l up h = up (min a b) (max a b) (two-ordered a b (a ∷ l) (two-here a b l h))
 
-  fine-in : (t : Top) (l : List ℕ) → ((p q : ℕ) → Two p q l → Shrink gs p q) → Fine t → Fine (topIn gs t l)
+  fine-in : (t : Top) (l : List ℕ) → Lifts l → Fine t → Fine (topIn gs t l)
   unfolding topIn
   fine-in t [] up f = f
   fine-in t (a ∷ l) up f =
       fine-in (topWith gs t a l) l (λ p q x. up p q (two-cons p q a l x)) (fine-with t a l (λ b h. min-max a b l up h) f)
 
-  fine-over : (t : Top) (ls : List (List ℕ)) → Up gs ls → Fine t → Fine (topOver gs t ls)
+  fine-over : (t : Top) (ls : List (List ℕ)) → All Lifts ls → Fine t → Fine (topOver gs t ls)
   unfolding topOver
   fine-over t [] u f = f
   fine-over t (l ∷ ls) u f = fine-over (topIn gs t l) ls (u .1) (fine-in t l (u .0) f)
 
-  pub fine-best : (findBestPair gs .count ≡ 0) ⊎ Shrink gs (findBestPair gs .a) (findBestPair gs .b)
-  unfolding findBestPair Fine
-  fine-best = fine-over (record { count = 0; a = 0; b = 0 }) gs (up-all gs) (inl refl)
+lifts-cons : (l : List ℕ) (gs ls : List (List ℕ)) → All (Lifts gs) ls → All (Lifts (l ∷ gs)) ls
+lifts-cons l gs ls u = all-map ls (λ m f p q t. inr (f p q t)) u
+
+lifts-all : (gs : List (List ℕ)) → All (Lifts gs) gs
+lifts-all [] = tt
+lifts-all (l ∷ gs) = ((λ p q t. inl t), lifts-cons l gs gs (lifts-all gs))
+
+pub fine-best : (gs : List (List ℕ)) → (findBestPair gs .count ≡ 0) ⊎ TwoIn (findBestPair gs .a) (findBestPair gs .b) gs
+unfolding findBestPair Fine
+fine-best gs = fine-over gs (record { count = 0; a = 0; b = 0 }) gs (lifts-all gs) (inl refl)
+
+pub two-best : (gs : List (List ℕ)) → findBestPair gs .count ≢ 0 → TwoIn (findBestPair gs .a) (findBestPair gs .b) gs
+two-best gs d = ⊎-elim (λ (e : findBestPair gs .count ≡ 0). absurd (d e)) (λ (h : TwoIn (findBestPair gs .a) (findBestPair gs .b) gs). h) (fine-best gs)
 
 -- ---- enough turns
 
 pub shrink-best : (s : State) → findBestPair (s .lists) .count ≢ 0 → total (replacePair s (findBestPair (s .lists) .a) (findBestPair (s .lists) .b) .lists) < total (s .lists)
-unfolding replacePair Shrink
-shrink-best s d = ⊎-elim (λ (e : findBestPair (s .lists) .count ≡ 0). absurd (d e)) (λ (h : Shrink (s .lists) (findBestPair (s .lists) .a) (findBestPair (s .lists) .b)). h _) (fine-best (s .lists))
+unfolding replacePair
+shrink-best s d = shrinks (findBestPair (s .lists) .a) (findBestPair (s .lists) .b) _ (s .lists) (two-best (s .lists) d)
 
 pub none-stays : (f : ℕ) (s : State) → findBestPair (s .lists) .count ≡ 0 → greedy f s ≡ s
 unfolding greedy
@@ -172,7 +179,7 @@ pub built-replaced : (s : State) (a b : ℕ) → length (replacePair s a b .buil
 unfolding replacePair
 built-replaced s a b = length-append (s .built) _
 
-none-turn : (s : State) → greedy 0 s ≡ s
+pub none-turn : (s : State) → greedy 0 s ≡ s
 unfolding greedy
 none-turn s = refl
 

@@ -15,6 +15,10 @@ pub mod Dedup
 pub mod FactoringLists
 pub mod FactoringFuel
 pub mod FactoringBest
+pub mod FactoringSteps
+pub mod FactoringEnds
+pub mod FactoringSound
+pub mod FactoringGrown
 pub mod Walks
 pub mod Accepted
 pub mod Shaped

@@ -1,2 +1,3 @@
 pub mod Forms
+pub mod Room
 pub mod Lines
