@@ -7,8 +7,10 @@ use native.Mathlib.Omega.{arith}
 use native.Mathlib.Nat.{add-zero}
 use lib.ListN.{getD, length}
 use lib.Seq.{set-comm}
-use Rattle.pairs.specs.Lists.{areaSize, leftAt, leftBase, putLeft, putList, putPair, putSig, putStart, sigAt, sigBase, startAt, startBase, useBase, usedAt}
+use Rattle.pairs.specs.Lists.{areaSize, leftAt, leftBase, putLeft, putList, putPair, putSig, putStart, putUsed, sigAt, sigBase, startAt, startBase, useBase, usedAt}
+use Rattle.tables.specs.Building.{putNode}
 use Rattle.tables.specs.Layout.{store}
+use Rattle.tables.proofs.Building.{cell-putNode}
 use Rattle.tables.proofs.Places.{cell-store, cell-store-other, length-store}
 
 module _ (l : List ℕ) (k s : ℕ) where
@@ -87,6 +89,47 @@ module _ (l : List ℕ) (i n : ℕ) where
   pub usedAt-putLeft : (u : ℕ) → u < 4096 → usedAt (putLeft l i n) u ≡ usedAt l u
   unfolding usedAt putLeft
   usedAt-putLeft u h = cell-store-other l leftBase i n useBase u (omega arith)
+
+module _ (l : List ℕ) (u x : ℕ) where
+  pub length-putUsed : length (putUsed l u x) ≡ length l
+  unfolding putUsed
+  length-putUsed = length-store l useBase u x
+
+  module _ (h : u < 4096) where
+    pub usedAt-putUsed : areaSize ≤ length l → usedAt (putUsed l u x) u ≡ x
+    unfolding usedAt putUsed
+    usedAt-putUsed z = cell-store l useBase u x (omega arith)
+
+    pub sigAt-putUsed : (k : ℕ) → sigAt (putUsed l u x) k ≡ sigAt l k
+    unfolding sigAt putUsed
+    sigAt-putUsed k = cell-store-other l useBase u x sigBase k (omega arith)
+
+    pub startAt-putUsed : (i : ℕ) → startAt (putUsed l u x) i ≡ startAt l i
+    unfolding startAt putUsed
+    startAt-putUsed i = cell-store-other l useBase u x startBase i (omega arith)
+
+    pub leftAt-putUsed : (i : ℕ) → leftAt (putUsed l u x) i ≡ leftAt l i
+    unfolding leftAt putUsed
+    leftAt-putUsed i = cell-store-other l useBase u x leftBase i (omega arith)
+
+  pub usedAt-putUsed-other : (w : ℕ) → w ≢ u → usedAt (putUsed l u x) w ≡ usedAt l w
+  unfolding usedAt putUsed
+  usedAt-putUsed-other w n = cell-store-other l useBase u x useBase w (omega arith)
+
+-- ---- a gate put into the network in front
+
+module _ (l : List ℕ) (v k at : ℕ) (f : ℕ → ℕ) (n lo hi : ℕ) (h : v < 512) (r : at + n ≤ 2048) where
+  pub sigAt-putNode : (w : ℕ) → sigAt (putNode l v k at f n lo hi) w ≡ sigAt l w
+  unfolding sigAt
+  sigAt-putNode w = cell-putNode l v k at f n lo hi h r sigBase w (omega arith)
+
+  pub startAt-putNode : (w : ℕ) → startAt (putNode l v k at f n lo hi) w ≡ startAt l w
+  unfolding startAt
+  startAt-putNode w = cell-putNode l v k at f n lo hi h r startBase w (omega arith)
+
+  pub leftAt-putNode : (w : ℕ) → leftAt (putNode l v k at f n lo hi) w ≡ leftAt l w
+  unfolding leftAt
+  leftAt-putNode w = cell-putNode l v k at f n lo hi h r leftBase w (omega arith)
 
 -- ---- putPair
 

@@ -120,7 +120,7 @@ module _ (l : List ℕ) (i f n a b j : ℕ) (ef : f ≡ startAt l i) (en : n ≡
   pub take-end′ : (m : List ℕ) → m ≡ putList l f (takeOut a b (front l f j)) → m ≡ putList l (startAt l i) (takeOut a b (listAt l i))
   take-end′ m em = let q = take-all in rw (← q, ← ef) em
 
-pub ruleset takes = (take-start, take-none, take-count, take-step, take-room, take-add, take-le, take-end, take-end′)
+pub ruleset takeOuts = (take-start, take-none, take-count, take-step, take-room, take-add, take-le, take-end, take-end′)
 
 -- ---- replace_in
 

@@ -3,7 +3,7 @@ ghost use mathlib.Core.Path.{_≡_};
 ghost use Prim.Native.Nat.{ℕ, _+_, _<_, _≤_};
 ghost use lib.ListN.{length};
 ghost use Rattle.model.specs.Signal.{fromVar};
-ghost use Rattle.pairs.specs.Lists.{areaSize, sigAt, startAt, leftAt, usedAt, putSig, putStart, putLeft, putUsed, putPair};
+ghost use Rattle.pairs.specs.Lists.{areaSize, sigAt, startAt, leftAt, usedAt, putSig, putStart, putLeft, putUsed, pairAt, putPair};
 use signal::Signal;
 use tables::scratch::number;
 use tables::scratch::put_word;
@@ -83,6 +83,21 @@ pub fn put_pair(area: &mut [u32], v: usize, a: u32, b: u32)
 {
     put_start(area, v, a);
     put_left(area, v, b);
+}
+
+// The two signals of new node v.
+pub fn pair_first(area: &[u32], v: usize) -> u32
+    requires { ⌜ (v < 512) × (areaSize ≤ length (now area)) ⌝ }
+    ensures { λ r. ⌜ r ≡ pairAt (now (area .entry)) v .fst ⌝ }
+{
+    word(area, START, v)
+}
+
+pub fn pair_second(area: &[u32], v: usize) -> u32
+    requires { ⌜ (v < 512) × (areaSize ≤ length (now area)) ⌝ }
+    ensures { λ r. ⌜ r ≡ pairAt (now (area .entry)) v .snd ⌝ }
+{
+    word(area, LEFT, v)
 }
 
 // The word of node v.

@@ -5,7 +5,7 @@ use lib.ListN.{length}
 use borrow.Author.Needs.{needs}
 use Rattle.model.specs.Sharing.{takeOut}
 use Rattle.pairs.specs.Lists.{front, putList}
-use Rattle.pairs.proofs.Taking.{take-count, take-step, takes}
+use Rattle.pairs.proofs.Taking.{take-count, take-step, takeOuts}
 use Rattle.pairs.proofs.replace.take_out.Statement.{statement}
 use Rattle.pairs.proofs.replace.take_out.Tie as tie
 
@@ -22,26 +22,26 @@ take-out-spec =
     (tie.spec
     Inv-loop
     μ-loop
-    (λ c κs. search (needs, takes))
-    (λ c κs. search (needs, takes))
-    (λ c. search (needs, takes))
-    (λ c. search (needs, takes))
-    (λ c κs. search (needs, takes))
-    (λ c. search (needs, takes))
-    (λ c κs. search (needs, takes))
-    (λ c. search (needs, takes))
-    (λ c. search (needs, takes))
-    (λ c. search (needs, takes))
+    (λ c κs. search (needs, takeOuts))
+    (λ c κs. search (needs, takeOuts))
+    (λ c. search (needs, takeOuts))
+    (λ c. search (needs, takeOuts))
+    (λ c κs. search (needs, takeOuts))
+    (λ c. search (needs, takeOuts))
+    (λ c κs. search (needs, takeOuts))
+    (λ c. search (needs, takeOuts))
+    (λ c. search (needs, takeOuts))
+    (λ c. search (needs, takeOuts))
     (λ c.
     let k = c .before .before .keep-one in
     let s = c .before .before .before .before .sig-at in
     let p = c .before .before .before .before .before .before .before .loop in (
       omega arith,
-      search (needs, takes),
+      search (needs, takeOuts),
       omega arith,
       search needs,
       take-count _ _ _ _ _ _ (p .inv .4) _ (p .inv .5) _ (s .ensures) _ (k .ensures .0),
       take-step _ _ _ _ _ _ (p .inv .4) _ (p .inv .5) _ (s .ensures) _ (k .ensures .1),
     ))  -- loop-again
-    (λ c. search (needs, takes))
-    (λ c. search (needs, takes)))
+    (λ c. search (needs, takeOuts))
+    (λ c. search (needs, takeOuts)))

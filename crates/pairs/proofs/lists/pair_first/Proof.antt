@@ -1,0 +1,11 @@
+use borrow.Author.Needs.{needs}
+use Rattle.pairs.specs.Lists.{pairAt, startAt}
+use Rattle.pairs.proofs.lists.pair_first.Statement.{statement}
+use Rattle.pairs.proofs.lists.pair_first.Tie as tie
+
+returns : tie.Need-returns
+unfolding pairAt startAt
+returns c = cc
+
+pub pair-first-spec : {M : Type 1} → statement M
+pair-first-spec = tie.close (tie.spec (λ c κs. search needs) returns)

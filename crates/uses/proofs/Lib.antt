@@ -1,0 +1,7 @@
+-- What belongs to no one function.
+pub mod Slots
+pub mod Tallies
+pub mod Walks
+pub mod Picking
+pub mod Loads
+pub mod Givings
