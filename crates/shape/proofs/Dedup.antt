@@ -19,7 +19,7 @@ use Rattle.model.specs.Network.{Work, dedupNode, dedupDffs, dedupCombs, remapDf
 use Rattle.shape.proofs.Named.{Here, here-zero, here-var, here-flip, here-more, here-node, here-remap, all-remap, shaped-at, shaped-all, wired-ins, wired-outs, wired-all, sorted-ins, sorted-all}
 use Rattle.shape.proofs.DedupNormal.{Closed, Form, Fit, NormLaw}
 use Rattle.shape.proofs.DedupPlace.{At, Ext, Result, result-ext, Put, put-is}
-use Rattle.shape.proofs.DedupSweep.{total, fanin-total, length-total, shaped-remap, isD, askedGate, asked, upTo, upTo-start, sweep, due, due-total, due-most, upTo-turn, asked-comb, asked-cell, asked-is, Asked, gate, cell, count, inputs, combs, combOf}
+use Rattle.shape.proofs.DedupSweep.{total, fanin-total, length-total, shaped-remap, isD, askedGate, asked, upTo, upTo-start, sweep, due, due-total, due-most, upTo-turn, asked-comb, asked-cell, asked-kind, count, inputs, combs, combOf}
 
 clash {ℓ} : {X : Type ℓ} {b : Bool} → b ≡ true → b ≡ false → X
 clash p q = absurd (true≢false (sym p ∙ q))
@@ -37,7 +37,7 @@ remap-same τ σ i n s h f = go (ref s) refl
     go (rnode w) e = ap (λ x. flip x (isInverted s)) (f w (here-node i n s w h e))
     go (rinput k) e = refl
 
-remap-all : (τ σ : ℕ → ℕ) (i n : ℕ) (l : List ℕ) → All (Here i n) l → ((m : ℕ) → m < n → τ m ≡ σ m) → map (remapOrder τ) l ≡ map (remapOrder σ) l
+pub remap-all : (τ σ : ℕ → ℕ) (i n : ℕ) (l : List ℕ) → All (Here i n) l → ((m : ℕ) → m < n → τ m ≡ σ m) → map (remapOrder τ) l ≡ map (remapOrder σ) l
 remap-all τ σ i n [] h f = refl
 remap-all τ σ i n (s ∷ l) h f = ap₂ _∷_ (remap-same τ σ i n s (h .0) f) (remap-all τ σ i n l (h .1) f)
 
@@ -224,11 +224,11 @@ module _ (norm : Gate → Norm) (law : NormLaw norm) (N : Net) (ok : Valid N) (s
   unfolding dedupWith
   result-outs = refl
 
-  result-inputs : result .inputs ≡ N .inputs
+  pub result-inputs : result .inputs ≡ N .inputs
   unfolding dedupWith
   result-inputs = refl
 
-  result-nodes : result .nodes ≡ map (remapDff norm N (W .trans)) (W .news)
+  pub result-nodes : result .nodes ≡ map (remapDff norm N (W .trans)) (W .news)
   unfolding dedupWith
   result-nodes = refl
 

@@ -15,7 +15,7 @@ use Rattle.kinds.proofs.Codes.{code-kind}
 use Rattle.laws.specs.Bools.{xor}
 use Rattle.laws.specs.Lists.{All}
 use Rattle.laws.proofs.Bools.{and-left, and-right, and-both}
-use Rattle.laws.proofs.Choices.{by-eq, by-or2, by-or3, by-test}
+use Rattle.laws.proofs.Choices.{by-bool, by-eq, by-or2, by-or3, by-test}
 use Rattle.model.specs.Signal.{isInverted, wordOf, flip, neg, withoutInversion, fromBool}
 use Rattle.model.specs.Gate.{Gate, isDff, isLut, fitsKind, fitsCode, fitsTable, shaped}
 use Rattle.model.specs.Normal.{Norm, copied, made, gateOf, made2, made3, least, most, low3, mid3, high3, andSorted, makeAnd, xorSorted, makeXor, and3Sorted, makeAnd3, xor3Sorted, makeXor3, muxPlain, muxSelect, makeMux, majPlain, majSorted, makeMaj, makeDff, keep, without, insert, sorted, uniq, opposed, andSome, andWide, andTidy, makeAndN, parity, cancel, xorSome, makeXorN, on1, on2, on3, normalK, makeCanonical}
@@ -431,3 +431,44 @@ canonical-law = record {
   of-comb = λ S k g s d h. normalK-form S k (kindOf (g .kind)) (g .ins) (made g false) (same-form S k g s d h) d h;
   of-cell = λ g s d. let e = dff-is g s d in subst (λ (h : Gate). (makeCanonical h ≡ made h false) ⊎ (makeCanonical h ≡ copied 0)) (sym e) (dff-cell (g .ins));
 }
+
+-- ---- what the law says of a gate that was made
+
+-- everything is in it
+abbrev Any : ℕ → Type 0
+Any s = Unit {0}
+
+any-closed : Closed Any
+any-closed = record { has-zero = tt; has-flip = λ s b x. tt }
+
+any-all : (l : List ℕ) → All Any l
+any-all [] = tt
+any-all (x ∷ l) = (tt, any-all l)
+
+-- a combinational gate's normalization, or the flip-flop itself
+pub data Made (g h : Gate) : Type 0 where
+  gate : isDff g ≡ false → Fit Any (length (g .ins)) h → Made g h
+  cell : isDff g ≡ true → h ≡ g → Made g h
+
+module _ (norm : Gate → Norm) (law : NormLaw norm) (g : Gate) (s : shaped g ≡ true) where
+  pub made-is : (h : Gate) (z : Bool) → norm g ≡ made h z → Made g h
+  made-is h z q = by-bool (isDff g) (λ e. go (law .of-cell g s e) e) (λ e. gate e (law .of-comb Any any-closed g s e (any-all (g .ins)) .gate h z q))
+    where
+      go : (norm g ≡ made g false) ⊎ (norm g ≡ copied 0) → isDff g ≡ true → Made g h
+      go (inl r) e = cell e (cc)
+      go (inr r) e = let z : _≡_ {A = ℕ} 0 1 = cc in absurd (omega arith)
+
+  -- no more inputs, and no combinational gate out of a flip-flop
+  pub made-few : (h : Gate) (z : Bool) → norm g ≡ made h z → length (h .ins) ≤ length (g .ins)
+  made-few h z q = go (made-is h z q)
+    where
+      go : Made g h → length (h .ins) ≤ length (g .ins)
+      go (gate e f) = f .few
+      go (cell e r) = rw r (omega arith)
+
+  pub made-dff : (h : Gate) (z : Bool) → norm g ≡ made h z → isDff h ≡ isDff g
+  made-dff h z q = go (made-is h z q)
+    where
+      go : Made g h → isDff h ≡ isDff g
+      go (gate e f) = f .comb ∙ sym e
+      go (cell e r) = ap isDff r

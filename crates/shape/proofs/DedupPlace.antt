@@ -19,7 +19,7 @@ use Rattle.model.specs.Network.{upd, sameList, sameGate, findStep, findGate, Pl
 
 -- ---- equal gates
 
-sameList-eq : (a b : List ℕ) → sameList a b ≡ true → a ≡ b
+pub sameList-eq : (a b : List ℕ) → sameList a b ≡ true → a ≡ b
 unfolding sameList
 sameList-eq [] [] e = refl
 sameList-eq [] (y ∷ ys) e = cc
@@ -41,8 +41,11 @@ pub record Ext (a b : List Gate) : Type 0 where
   pub longer : length a ≤ length b
   pub same : (j : ℕ) → j < length a → getD b j noGate ≡ getD a j noGate
 
-ext-refl : (a : List Gate) → Ext a a
+pub ext-refl : (a : List Gate) → Ext a a
 ext-refl a = record { longer = le-refl _; same = λ j h. refl }
+
+pub ext-trans : {a b c : List Gate} → Ext a b → Ext b c → Ext a c
+ext-trans p q = record { longer = omega arith; same = λ j h. q .same j (let l = p .longer in omega arith) ∙ p .same j h }
 
 ext-snoc : (a : List Gate) (g : Gate) → Ext a (a ++ (g ∷ []))
 ext-snoc a g = record { longer = rw length-append (omega arith); same = λ j h. List·getD-append a (g ∷ []) noGate j h }

@@ -2,22 +2,22 @@
 use mathlib.Core.Path.{_≡_, refl, sym, ap, _∙_, subst}
 use mathlib.Core.Logic.{_⊎_, inl, inr}
 use Prim.Native.Nat.{ℕ, zero, suc, _+_, _≤_, _<_}
-use native.Mathlib.Nat.{le-refl}
+use native.Mathlib.Nat.{le-refl, not-suc-le-zero}
 use native.Mathlib.Omega.{arith}
-use native.Mathlib.Decide.{ℕ-discrete}
+use native.Mathlib.Decide.{ℕ-discrete, decLt}
 use mathlib.Core.Bool.{Bool, true, false, not, cond}
 use mathlib.Core.List.{List, [], _∷_, _++_, map}
 use lib.ListN.{length, getD, length-map}
 use Rattle.laws.specs.Bools.{bit}
 use Rattle.laws.specs.Lists.{All}
 use Rattle.laws.proofs.Choices.{by-bool}
-use Rattle.model.specs.Signal.{flip, remapOrder}
+use Rattle.model.specs.Signal.{fromVar, remapOrder}
 use Rattle.model.specs.Gate.{Gate, Net, isDff, remapGate, noGate, gateAt, size, fitsCode, fitsTable, shaped, allShaped, fanin}
 use Rattle.model.specs.Normal.{Norm, copied, made}
 use Rattle.model.specs.Network.{sumTo, Work, dedupNode, dedupDffs, dedupCombs}
 use Rattle.shape.proofs.Named.{shaped-at}
-use Rattle.shape.proofs.DedupNormal.{Closed, Form, Fit, NormLaw}
-use Rattle.shape.proofs.DedupPlace.{Grown, same, more, grown}
+use Rattle.shape.proofs.DedupNormal.{Closed, Form, NormLaw, made-few, made-dff}
+use Rattle.shape.proofs.DedupPlace.{Ext, ext-refl, ext-trans, Put, put-is, Grown, same, more, grown}
 
 -- ---- weights of lists of gates
 
@@ -94,6 +94,10 @@ module _ (norm : Gate → Norm) (N : Net) where
   pub upTo-start : upTo true 0 .news ≡ []
   unfolding dedupDffs
   upTo-start = refl
+
+  pub upTo-trans : (v : ℕ) → upTo true 0 .trans v ≡ fromVar v
+  unfolding dedupDffs
+  upTo-trans v = refl
 
   flipped : (a b : Bool) → (a ≡ b) ⊎ (a ≡ not b)
   flipped true true = inl refl
@@ -193,42 +197,76 @@ module _ (norm : Gate → Norm) (N : Net) where
     pub asked-cell : (τ : ℕ → ℕ) (n : ℕ) → n < size N → isD n ≡ true → (asked τ n ≡ made (gateAt N n) false) ⊎ (asked τ n ≡ copied 0)
     asked-cell τ n h e = rw e (law .of-cell (gateAt N n) (shaped-at (N .nodes) ok n h) e)
 
-    -- a gate that is looked up: a combinational gate of its node's, or the flip-flop itself
-    pub data Asked (n : ℕ) (g : Gate) : Type 0 where
-      gate : isD n ≡ false → Fit (λ s. Unit {0}) (length (gateAt N n .ins)) g → Asked n g
-      cell : isD n ≡ true → g ≡ gateAt N n → Asked n g
+    asked-shaped : (τ : ℕ → ℕ) (n : ℕ) → n < size N → shaped (askedGate τ n) ≡ true
+    asked-shaped τ n h =
+        let s = shaped-at (N .nodes) ok n h in
+        by-bool (isD n) (λ e. rw e s) (λ e. rw e (shaped-remap τ (gateAt N n) ∙ s))
 
-    pub asked-is : (τ : ℕ → ℕ) (n : ℕ) → n < size N → (g : Gate) (z : Bool) → asked τ n ≡ made g z → Asked n g
-    asked-is τ n h g z q = by-bool (isD n) (λ e. go (asked-cell τ n h e) e) (λ e. gate e (asked-comb U u τ n h e (free (map (remapOrder τ) (gateAt N n .ins))) .gate g z q))
-      where
-        U : ℕ → Type 0
-        U s = Unit {0}
+    asked-length : (τ : ℕ → ℕ) (n : ℕ) → length (askedGate τ n .ins) ≡ length (gateAt N n .ins)
+    asked-length τ n = by-bool (isD n) (λ e. rw e) (λ e. rw e (length-map (gateAt N n .ins) (remapOrder τ)))
 
-        u : Closed U
-        u = record { has-zero = tt; has-flip = λ s b x. tt }
+    asked-dff : (τ : ℕ → ℕ) (n : ℕ) → isDff (askedGate τ n) ≡ isD n
+    asked-dff τ n = by-bool (isD n) (λ e. rw e e) (λ e. rw e e)
 
-        free : (l : List ℕ) → All U l
-        free [] = tt
-        free (x ∷ l) = (tt, free l)
-
-        go : (asked τ n ≡ made (gateAt N n) false) ⊎ (asked τ n ≡ copied 0) → isD n ≡ true → Asked n g
-        go (inl r) e = cell e (cc)
-        go (inr r) e = let z : _≡_ {A = ℕ} 0 1 = cc in absurd (omega arith)
+    -- a flip-flop comes of a flip-flop, a gate of a gate
+    pub asked-kind : (τ : ℕ → ℕ) (n : ℕ) → n < size N → (g : Gate) (z : Bool) → asked τ n ≡ made g z → isDff g ≡ isD n
+    asked-kind τ n h g z q = made-dff norm law (askedGate τ n) (asked-shaped τ n h) g z q ∙ asked-dff τ n
 
     -- no more nodes, gate inputs or combinational gates than were looked up
     pub count : (b : Bool) (k : ℕ) → k ≤ size N → length (upTo b k .news) ≤ due (λ g. 1) b k
     count b k h = rw (length-total (upTo b k .news)) (weigh (λ g. 1) (λ τ n l g z q. le-refl 1) b k h)
 
     pub inputs : (b : Bool) (k : ℕ) → k ≤ size N → fanin (upTo b k .news) ≤ due (λ g. length (g .ins)) b k
-    inputs b k h = rw (fanin-total (upTo b k .news)) (weigh (λ g. length (g .ins)) (λ τ n l g z q. go τ n l g (asked-is τ n l g z q)) b k h)
-      where
-        go : (τ : ℕ → ℕ) (n : ℕ) → n < size N → (g : Gate) → Asked n g → length (g .ins) ≤ length (gateAt N n .ins)
-        go τ n l g (gate e f) = f .few
-        go τ n l g (cell e q) = rw q (le-refl _)
+    inputs b k h =
+        rw (fanin-total (upTo b k .news))
+        (weigh (λ g. length (g .ins)) (λ τ n l g z q. rw (← (asked-length τ n)) (made-few norm law (askedGate τ n) (asked-shaped τ n l) g z q)) b k h)
 
     pub combs : (b : Bool) (k : ℕ) → k ≤ size N → total combOf (upTo b k .news) ≤ due combOf b k
-    combs = weigh combOf (λ τ n l g z q. go τ n l g (asked-is τ n l g z q))
-      where
-        go : (τ : ℕ → ℕ) (n : ℕ) → n < size N → (g : Gate) → Asked n g → combOf g ≤ combOf (gateAt N n)
-        go τ n l g (gate e f) = rw (f .comb, e) (le-refl 1)
-        go τ n l g (cell e q) = rw q (le-refl _)
+    combs = weigh combOf (λ τ n l g z q. rw (asked-kind τ n l g z q) (le-refl _))
+
+    -- ---- the flip-flops stand first
+
+    -- the new nodes of the sweep over flip-flops
+    abbrev pub cells : List Gate
+    cells = upTo true (size N) .news
+
+    -- in the first sweep there are flip-flops alone; the second puts gates behind them
+    abbrev Apart : Bool → ℕ → Work → Type 0
+    Apart true k d = (j : ℕ) → j < length (d .news) → isDff (getD (d .news) j noGate) ≡ true
+    Apart false k d = Ext cells (d .news) × ((j : ℕ) → length cells ≤ j → j < length (d .news) → isDff (getD (d .news) j noGate) ≡ false)
+
+    apart-turn : (b : Bool) (k : ℕ) → k < size N → isD k ≡ b → Apart b k (upTo b k) → Apart b (suc k) (dedupNode (asked (upTo b k .trans) k) k (upTo b k))
+    apart-turn true k h e p = λ j l. elim (decLt j (length (upTo true k .news))) [
+      | yes q ↦ ap isDff (put-is (asked (upTo true k .trans) k) k (upTo true k) .ext .same j q) ∙ p j q
+      | no q ↦ (let r = put-is (asked (upTo true k .trans) k) k (upTo true k) .only j (omega arith) l in
+          ap isDff (r .3) ∙ asked-kind (upTo true k .trans) k h (r .0) (r .1) (r .2) ∙ e)
+    ]
+    apart-turn false k h e p =
+        let P = put-is (asked (upTo false k .trans) k) k (upTo false k) in (
+          ext-trans (p .0) (P .ext),
+          λ j c l. elim (decLt j (length (upTo false k .news))) [
+            | yes q ↦ ap isDff (P .ext .same j q) ∙ p .1 j c q
+            | no q ↦ (let r = P .only j (omega arith) l in ap isDff (r .3) ∙ asked-kind (upTo false k .trans) k h (r .0) (r .1) (r .2) ∙ e)
+          ],
+        )
+
+    apart-skip : (b : Bool) (k : ℕ) → Apart b k (upTo b k) → Apart b (suc k) (upTo b k)
+    apart-skip true k p = p
+    apart-skip false k p = p
+
+    apart : (b : Bool) (k : ℕ) → k ≤ size N → Apart b k (upTo b k)
+    apart = sweep Apart
+        (λ j l. absurd (not-suc-le-zero (subst (λ (m : List Gate). j < length m) upTo-start l)))
+        apart-turn
+        (λ b k h e p. apart-skip b k p)
+        (λ p. (ext-refl cells, λ j c l. absurd (omega arith)))
+
+    -- THE ORDER of the new nodes
+    pub cells-first : Ext cells (upTo false (size N) .news)
+    cells-first = apart false (size N) (le-refl _) .0
+
+    pub cells-cells : (j : ℕ) → j < length cells → isDff (getD (upTo false (size N) .news) j noGate) ≡ true
+    cells-cells j h = ap isDff (cells-first .same j h) ∙ apart true (size N) (le-refl _) j h
+
+    pub gates-behind : (j : ℕ) → length cells ≤ j → j < length (upTo false (size N) .news) → isDff (getD (upTo false (size N) .news) j noGate) ≡ false
+    gates-behind = apart false (size N) (le-refl _) .1

@@ -1,0 +1,6 @@
+pub mod Areas
+pub mod Searches
+pub mod Standing
+pub mod Lookups
+pub mod Sweeps
+pub mod Finish
