@@ -138,11 +138,11 @@ module _ (f : Family) (N : Net) where
 -- ---- its gates
 
 shaped-buf : (l : List ℕ) → One l → shaped (gateOf Buf l) ≡ true
-unfolding shaped fitsCode fitsKind kindOf fitsTable
+unfolding shaped fitsCode kindOf fitsTable
 shaped-buf l h = rw h
 
 shaped-pair : (f : Family) (x : Pair) → shaped (pairGate f x) ≡ true
-unfolding shaped fitsCode fitsKind kindOf fitsTable
+unfolding shaped fitsCode kindOf fitsTable
 shaped-pair And x = refl
 shaped-pair Xor x = refl
 

@@ -4,63 +4,48 @@ use Rattle.normal_forms.proofs.records.fits.Statement.{statement}
 use Rattle.normal_forms.proofs.records.fits.Tie as tie
 
 returns : tie.Need-returns
-unfolding fitsKind
 returns c = cc
 
 returns-2 : tie.Need-returns-2
-unfolding fitsKind
 returns-2 c = cc
 
 returns-3 : tie.Need-returns-3
-unfolding fitsKind
 returns-3 c = cc
 
 returns-4 : tie.Need-returns-4
-unfolding fitsKind
 returns-4 c = cc
 
 returns-5 : tie.Need-returns-5
-unfolding fitsKind
 returns-5 c = cc
 
 returns-6 : tie.Need-returns-6
-unfolding fitsKind
 returns-6 c = cc
 
 returns-7 : tie.Need-returns-7
-unfolding fitsKind
 returns-7 c = cc
 
 returns-8 : tie.Need-returns-8
-unfolding fitsKind
 returns-8 c = cc
 
 returns-9 : tie.Need-returns-9
-unfolding fitsKind
 returns-9 c = cc
 
 returns-10 : tie.Need-returns-10
-unfolding fitsKind
 returns-10 c = cc
 
 returns-11 : tie.Need-returns-11
-unfolding fitsKind
 returns-11 c = cc
 
 returns-12 : tie.Need-returns-12
-unfolding fitsKind
 returns-12 c = cc
 
 returns-13 : tie.Need-returns-13
-unfolding fitsKind
 returns-13 c = cc
 
 returns-14 : tie.Need-returns-14
-unfolding fitsKind
 returns-14 c = cc
 
 returns-15 : tie.Need-returns-15
-unfolding fitsKind
 returns-15 c = cc
 
 pub fits-spec : {M : Type 1} → statement M
