@@ -4,19 +4,20 @@ use mathlib.Core.List.{List}
 use mathlib.Core.Bool.{Bool, true, false, not, cond, _&&_, and-false}
 use Prim.Native.Nat.{ℕ, _+_, _-_, _/_, _≤_, _<_}
 use native.Mathlib.Omega.{arith}
-use lib.ListN.{length}
-use lib.Dec.{eqb}
+use lib.ListN.{length, take, drop}
+use lib.Dec.{eqb, leb}
 use borrow.Author.Tests.{lt-leb, le-leb, eq-eqb, ne-eqb, eqb-true, eqb-false, not-true, not-false}
-use Rattle.laws.proofs.Bools.{and-right}
+use Rattle.laws.proofs.Bools.{and-left, and-right}
 use Rattle.laws.proofs.Choices.{by-bool}
-use Rattle.model.specs.Gate.{fanin, wired, isTopoSorted}
+use Rattle.model.specs.Gate.{fanin, gatesNamed, wired, isTopoSorted}
 use Rattle.model.specs.Image.{words, soundFrom, endFrom, gatesFrom, netIn, laid}
 use Rattle.model.proofs.Bytes.{length-words}
 use Rattle.shape.proofs.Walks.{length-gates}
-use Rattle.image.specs.Reader.{laidFrom, wiringFrom, gatesWiring, bodyNumber}
+use Rattle.image.specs.Reader.{laidFrom, reachFrom, wiringFrom, bodyNumber}
 use Rattle.image.specs.declared.records.Laid.{Laid}
 use Rattle.image.specs.declared.records.Laid.the-variants.{Broken, Inputs}
 use Rattle.image.specs.declared.signals.Wiring.{Wiring}
+use Rattle.image.proofs.Reaches.{all-named, gates-named, gates-sorted}
 
 -- ---- what an answer of `layout` says of the test that it came from
 
@@ -86,27 +87,36 @@ module _ (b : List ℕ) (s : Bool) (i n o : ℕ) where
       unfolding bodyNumber
       body-many l = simp (laid-yes, few-yes, lt-leb t 2048 l)
 
-      module _ (l : t ≤ 2048) (g : Wiring) (eg : g ≡ gatesWiring i n 0 n (words b) 0)
-          (y : Wiring) (ey : y ≡ wiringFrom i n n o (words b) (length b / 4 - (o + 4))) where
-        wired-is : wired (netIn i n o (words b)) ≡ (g .named && y .named)
-        unfolding wired netIn gatesWiring wiringFrom
-        wired-is = simp (eg, ey, length-gates, laid-end n (words b) (length b / 4 - (o + 4)) t lim-inv)
+      module _ (l : t ≤ 2048) (c : n ≤ 512) (g : Wiring) (eg : g ≡ wiringFrom i n 0 n (words b) 0)
+          (r : ℕ) (er : r ≡ reachFrom i o (words b) (length b / 4 - (o + 4))) where
+        gates-is : g .named ≡ gatesNamed i n (gatesFrom n (words b) 0)
+        unfolding wiringFrom
+        gates-is = ap (λ (w : Wiring). w .named) eg ∙ gates-named i n (gatesFrom n (words b) 0) (omega arith)
 
-        sorted-is : isTopoSorted (netIn i n o (words b)) ≡ g .sorted
-        unfolding isTopoSorted netIn gatesWiring
-        sorted-is = simp eg
+        wired-is : wired (netIn i n o (words b)) ≡ (g .named && leb r n)
+        unfolding wired netIn reachFrom
+        wired-is =
+            let e = laid-end n (words b) (length b / 4 - (o + 4)) t lim-inv in
+            simp (length-gates, e, er, all-named i n (take o (drop (length b / 4 - (o + 4)) (words b))) (omega arith), gates-is)
 
-        pub body-absent : not (g .named && y .named) ≡ true → 6 ≡ bodyNumber s i n o (words b)
+        pub body-absent : not (g .named && leb r n) ≡ true → 6 ≡ bodyNumber s i n o (words b)
         unfolding bodyNumber
-        body-absent m = simp (laid-yes, few-yes, le-leb t 2048 l, wired-is, not-true (g .named && y .named) m)
+        body-absent m = simp (laid-yes, few-yes, le-leb t 2048 l, wired-is, not-true (g .named && leb r n) m)
 
-        module _ (m : not (g .named && y .named) ≡ false) where
+        module _ (m : not (g .named && leb r n) ≡ false) where
+          sorted-is : isTopoSorted (netIn i n o (words b)) ≡ g .sorted
+          unfolding isTopoSorted netIn wiringFrom
+          sorted-is =
+              let y : gatesNamed i n (gatesFrom n (words b) 0) ≡ true =
+              sym gates-is ∙ and-left (g .named) (leb r n) (not-false (g .named && leb r n) m) in
+              sym (ap (λ (w : Wiring). w .sorted) eg ∙ gates-sorted i n 0 (gatesFrom n (words b) 0) y)
+
           pub body-unsorted : (s && not (g .sorted)) ≡ true → 7 ≡ bodyNumber s i n o (words b)
           unfolding bodyNumber
-          body-unsorted r = simp (laid-yes, few-yes, le-leb t 2048 l, wired-is, not-false (g .named && y .named) m, sorted-is, r)
+          body-unsorted q = simp (laid-yes, few-yes, le-leb t 2048 l, wired-is, not-false (g .named && leb r n) m, sorted-is, q)
 
           pub body-sound : (s && not (g .sorted)) ≡ false → 0 ≡ bodyNumber s i n o (words b)
           unfolding bodyNumber
-          body-sound r = simp (laid-yes, few-yes, le-leb t 2048 l, wired-is, not-false (g .named && y .named) m, sorted-is, r)
+          body-sound q = simp (laid-yes, few-yes, le-leb t 2048 l, wired-is, not-false (g .named && leb r n) m, sorted-is, q)
 
 pub ruleset bodies = (body-short, body-broken, body-end, body-many, body-absent, body-unsorted, body-sound)

@@ -55,6 +55,10 @@ module _ (img : List ℕ) (r : Checked) (e : r ≡ framedOf img) (f : Frame) (q 
   unfolding frameOf
   check-start = rw (passed .same) (omega arith)
 
+  pub check-nodes : f .nodes ≤ 512
+  unfolding frameOf
+  check-nodes = rw (passed .same) (within-is img (passed .two) .nodes-few)
+
   pub check-outs : f .outs ≤ 64
   unfolding frameOf
   check-outs = rw (passed .same) (within-is img (passed .two) .outs-few)
@@ -83,7 +87,7 @@ module _ (img : List ℕ) (r : Checked) (e : r ≡ framedOf img) (f : Frame) (q 
     unfolding numberedOf
     check-no z = simp (← check-number) (answer-no n (frameOf img) z)
 
-pub ruleset checks = (check-refused, check-start, check-outs, check-yes, check-no)
+pub ruleset checks = (check-refused, check-start, check-nodes, check-outs, check-yes, check-no)
 
 -- ---- without 7 and with it
 

@@ -61,7 +61,7 @@ fn frame_of(img: &[u8]) -> Checked
 
 // 4 to 6, and 7 where `strict` asks for it: the number that refuses a body, or 0.
 fn check_body(body: &[u8], inputs: u32, nodes: u32, outs: u32, strict: bool) -> u32
-    requires { ⌜ outs ≤ 64 ⌝ }
+    requires { ⌜ (nodes ≤ 512) × (outs ≤ 64) ⌝ }
     ensures { λ r. ⌜ r ≡ bodyNumber strict inputs nodes outs (words (now (body .entry))) ⌝ }
 {
     let count = outs as usize;
@@ -78,8 +78,8 @@ fn check_body(body: &[u8], inputs: u32, nodes: u32, outs: u32, strict: bool) -> 
                 return 5;
             }
             let gates = signals::of_records(body, inputs, nodes);
-            let outputs = signals::of_words(body, lim, count, inputs, nodes, nodes);
-            if !(gates.named & outputs.named) {
+            let outputs = signals::reach(body, lim, count, inputs);
+            if !(gates.named & (outputs <= nodes)) {
                 return 6;
             }
             if strict & !gates.sorted {

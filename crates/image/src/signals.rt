@@ -2,73 +2,61 @@
 ghost use mathlib.Core.Path.{_≡_};
 ghost use Prim.Native.Nat.{_+_, _/_, _≤_};
 ghost use lib.ListN.{length};
-ghost use Rattle.model.specs.Signal.{ref};
-ghost use Rattle.model.specs.Gate.{named, belowRef};
+ghost use Rattle.model.specs.Normal.{most};
 ghost use Rattle.model.specs.Image.{words, endFrom};
-ghost use Rattle.image.specs.Reader.{wiringFrom, gatesWiring};
+ghost use Rattle.image.specs.Reader.{reachOf, reachFrom, wiringFrom};
 use crate::records;
 use signal::Signal;
 
-// Whether each signal names a constant, an input or a node; and whether none names a node too early.
+// Whether each signal names a constant, an input or a node; and whether each gate stands behind what it names.
 pub struct Wiring {
     pub named: bool,
     pub sorted: bool,
 }
 
-fn is_named(s: Signal, inputs: u32, nodes: u32) -> bool
-    ensures { λ r. ⌜ r ≡ named inputs nodes (s .a) ⌝ }
+// How many nodes there must be for a signal to name something: v + 1 for node v, none for a constant or an input, and more
+// than there can be for an absent input.
+fn reach_of(s: Signal, inputs: u32) -> u32
+    ensures { λ r. ⌜ r ≡ reachOf inputs (s .a) ⌝ }
 {
-    if s.is_input() {
-        return s.input() < inputs;
+    if !s.is_input() {
+        return s.ind();
     }
-    if s.is_var() {
-        return s.var() < nodes;
+    if s.input() < inputs {
+        return 0;
     }
-    true
+    0xFFFF_FFFF
 }
 
-// Whether a signal names no node from `bound` on.
-fn is_below(s: Signal, bound: u32) -> bool
-    ensures { λ r. ⌜ r ≡ belowRef bound (ref (s .a)) ⌝ }
+fn most(a: u32, b: u32) -> u32
+    ensures { λ r. ⌜ r ≡ most a b ⌝ }
 {
-    if s.is_var() {
-        return s.var() < bound;
-    }
-    true
+    if a <= b { b } else { a }
 }
 
-// The `count` signals from the word `from` on; sorted, where the nodes that they name are below `bound`.
-pub fn of_words(
-    body: &[u8],
-    from: usize,
-    count: usize,
-    inputs: u32,
-    nodes: u32,
-    bound: u32,
-) -> Wiring
+// The greatest reach of the `count` signals from the word `from` on.
+pub fn reach(body: &[u8], from: usize, count: usize, inputs: u32) -> u32
     requires { ⌜ from + count ≤ length (now body) / 4 ⌝ }
-    ensures { λ r. ⌜ r ≡ wiringFrom inputs nodes bound count (words (now (body .entry))) from ⌝ }
+    ensures { λ r. ⌜ r ≡ reachFrom inputs count (words (now (body .entry))) from ⌝ }
 {
     let mut at = from;
     let mut left = count;
-    let mut named = true;
-    let mut sorted = true;
+    let mut top: u32 = 0;
     while 0 < left {
         let s = Signal {
             a: words::nth(body, at),
         };
-        named = named & is_named(s, inputs, nodes);
-        sorted = sorted & is_below(s, bound);
+        top = most(top, reach_of(s, inputs));
         at += 1;
         left -= 1;
     }
-    Wiring { named, sorted }
+    top
 }
 
-// The inputs of the records: a combinational gate is sorted where it names nodes below its own number, a flip-flop always.
+// The records' inputs. A combinational gate reaches no further than its own number, a flip-flop anywhere.
 pub fn of_records(body: &[u8], inputs: u32, nodes: u32) -> Wiring
     requires { ⌜ endFrom nodes (words (now body)) 0 ≤ length (now body) / 4 ⌝ }
-    ensures { λ r. ⌜ r ≡ gatesWiring inputs nodes 0 nodes (words (now (body .entry))) 0 ⌝ }
+    ensures { λ r. ⌜ r ≡ wiringFrom inputs nodes 0 nodes (words (now (body .entry))) 0 ⌝ }
 {
     let mut v: u32 = 0;
     let mut at: usize = 0;
@@ -76,9 +64,9 @@ pub fn of_records(body: &[u8], inputs: u32, nodes: u32) -> Wiring
     let mut sorted = true;
     while v < nodes {
         let h = words::nth(body, at);
-        let w = of_words(body, at + 1, (h / 256) as usize, inputs, nodes, v);
-        named = named & w.named;
-        sorted = sorted & (kinds::is_flip_flop(kinds::kind_of(h % 256)) | w.sorted);
+        let r = reach(body, at + 1, (h / 256) as usize, inputs);
+        named = named & (r <= nodes);
+        sorted = sorted & (kinds::is_flip_flop(kinds::kind_of(h % 256)) | (r <= v));
         at += records::size_of(h);
         v += 1;
     }

@@ -8,7 +8,7 @@ use lib.ListN.{length, length-append}
 use Rattle.laws.proofs.Choices.{by-bool}
 use Rattle.laws.proofs.Bools.{and-left, and-right}
 use Rattle.model.specs.Gate.{Gate, Net, Valid, size, isLut, shaped, allShaped, fanin, allNamed, gatesNamed, wired}
-use Rattle.model.specs.Image.{Bytes, Words32, bytes, tableWords, gateWords, gatesWords, bodyWords, netWords, imageOf}
+use Rattle.model.specs.Image.{Bytes, Words32, tableWords, gateWords, gatesWords, bodyWords, netWords, imageOf}
 use Rattle.model.proofs.Bytes.{words-append, words-cons, words-nil, bytes-small}
 use Rattle.model.proofs.Named.{named-words}
 use Rattle.shape.proofs.Shaped.{kind-small, table-two, first-shaped, rest-shaped}

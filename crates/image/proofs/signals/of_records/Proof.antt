@@ -3,7 +3,7 @@ use Prim.Native.Nat.{_-_}
 use native.Mathlib.Omega.{arith}
 use borrow.Author.Needs.{needs}
 use Rattle.model.specs.Image.{words, endFrom}
-use Rattle.image.specs.Reader.{gatesWiring}
+use Rattle.image.specs.Reader.{wiringFrom}
 use Rattle.image.proofs.Layouts.{walk-step, walks}
 use Rattle.image.proofs.Wires.{joined, gates-step, gates}
 use Rattle.image.proofs.signals.of_records.Statement.{statement}
@@ -11,7 +11,7 @@ use Rattle.image.proofs.signals.of_records.Tie as tie
 
 abbrev Inv-loop : tie.InvT-loop
 Inv-loop body inputs nodes v₀ at₀ named₀ sorted₀ v at named sorted =
-    (gatesWiring inputs nodes 0 nodes (words body) 0 ≡ joined named sorted (gatesWiring inputs nodes v (nodes - v) (words body) at))
+    (wiringFrom inputs nodes 0 nodes (words body) 0 ≡ joined named sorted (wiringFrom inputs nodes v (nodes - v) (words body) at))
     × (endFrom (nodes - v) (words body) at ≡ endFrom nodes (words body) 0)
 
 abbrev μ-loop : tie.MeasureT-loop
@@ -19,11 +19,11 @@ abbrev μ-loop : tie.MeasureT-loop
 
 loop-again : tie.Need-loop-again Inv-loop μ-loop
 loop-again c =
-    let inv = c .before .before .before .before .before .before .before .before .loop .inv in
-    let header = c .before .before .before .before .before .before .nth .ensures in
-    let ins = c .before .before .before .before .before .of-words .ensures in
-    let kind = c .before .before .before .kind-of .ensures in
-    let dff = c .before .before .is-flip-flop .ensures in
+    let inv = c .before .before .before .before .before .before .loop .inv in
+    let header = c .before .before .before .before .nth .ensures in
+    let ins = c .before .before .before .reach .ensures in
+    let kind = c .before .before .kind-of .ensures in
+    let dff = c .before .is-flip-flop .ensures in
     let size = c .size-of .ensures in
     (gates-step _ _ _ _ _ _ _ _ (inv .0) (omega arith) _ header _ ins _ kind _ dff _ size, walk-step _ _ _ _ _ (inv .1) (omega arith) _ header _ size)
 
