@@ -1,52 +1,6 @@
 use borrow.Author.Needs.{needs}
-use Rattle.model.specs.Gate.{fitsKind}
 use Rattle.normal_forms.proofs.records.fits.Statement.{statement}
 use Rattle.normal_forms.proofs.records.fits.Tie as tie
-
-returns : tie.Need-returns
-returns c = cc
-
-returns-2 : tie.Need-returns-2
-returns-2 c = cc
-
-returns-3 : tie.Need-returns-3
-returns-3 c = cc
-
-returns-4 : tie.Need-returns-4
-returns-4 c = cc
-
-returns-5 : tie.Need-returns-5
-returns-5 c = cc
-
-returns-6 : tie.Need-returns-6
-returns-6 c = cc
-
-returns-7 : tie.Need-returns-7
-returns-7 c = cc
-
-returns-8 : tie.Need-returns-8
-returns-8 c = cc
-
-returns-9 : tie.Need-returns-9
-returns-9 c = cc
-
-returns-10 : tie.Need-returns-10
-returns-10 c = cc
-
-returns-11 : tie.Need-returns-11
-returns-11 c = cc
-
-returns-12 : tie.Need-returns-12
-returns-12 c = cc
-
-returns-13 : tie.Need-returns-13
-returns-13 c = cc
-
-returns-14 : tie.Need-returns-14
-returns-14 c = cc
-
-returns-15 : tie.Need-returns-15
-returns-15 c = cc
 
 pub fits-spec : {M : Type 1} → statement M
 fits-spec =
@@ -67,18 +21,18 @@ fits-spec =
     (λ c. search needs)
     (λ c. search needs)
     (λ c. search needs)
-    returns
-    returns-2
-    returns-3
-    returns-4
-    returns-5
-    returns-6
-    returns-7
-    returns-8
-    returns-9
-    returns-10
-    returns-11
-    returns-12
-    returns-13
-    returns-14
-    returns-15)
+    (λ c. cc)
+    (λ c. cc)
+    (λ c. cc)
+    (λ c. cc)
+    (λ c. cc)
+    (λ c. cc)
+    (λ c. cc)
+    (λ c. cc)
+    (λ c. cc)
+    (λ c. cc)
+    (λ c. cc)
+    (λ c. cc)
+    (λ c. cc)
+    (λ c. cc)
+    (λ c. cc))
