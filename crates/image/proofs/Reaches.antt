@@ -13,7 +13,7 @@ use Rattle.laws.proofs.Choices.{by-bool}
 use Rattle.model.specs.Signal.{Ref, rzero, rnode, rinput, ref}
 use Rattle.model.specs.Gate.{Gate, isDff, namedRef, named, allNamed, gatesNamed, belowRef, allBelow, sortedFrom}
 use Rattle.model.specs.Normal.{most}
-use Rattle.model.proofs.Order.{most-is, most-gt}
+use Rattle.model.proofs.Order.{most-le, most-gt}
 use Rattle.model.proofs.Named.{named-word, named-ref}
 use Rattle.image.specs.Reader.{reachRef, reachOf, reachAll, namedReach, sortedReach}
 
@@ -22,12 +22,12 @@ use Rattle.image.specs.Reader.{reachRef, reachOf, reachAll, namedReach, 
 most-within : (a b n : ℕ) → leb (most a b) n ≡ (leb a n && leb b n)
 most-within a b n = elim (decLe a b) [
   | yes l ↦ elim (decLe b n) [
-    | yes m ↦ rw (most-is a b l, le-leb b n m, le-leb a n (omega arith))
-    | no m ↦ rw (most-is a b l, lt-leb b n (omega arith)) (sym (both-no (leb a n)))
+    | yes m ↦ rw (← most-le a b l, le-leb b n m, le-leb a n (omega arith))
+    | no m ↦ rw (← most-le a b l, lt-leb b n (omega arith)) (sym (both-no (leb a n)))
   ]
   | no l ↦ elim (decLe a n) [
-    | yes m ↦ rw (most-gt a b (omega arith), le-leb a n m, le-leb b n (omega arith))
-    | no m ↦ rw (most-gt a b (omega arith), lt-leb a n (omega arith))
+    | yes m ↦ rw (← most-gt a b (omega arith), le-leb a n m, le-leb b n (omega arith))
+    | no m ↦ rw (← most-gt a b (omega arith), lt-leb a n (omega arith))
   ]
 ]
   where

@@ -19,7 +19,7 @@ use Rattle.model.specs.Normal.{most}
 use Rattle.model.specs.Image.{words, codeAt, countAt, sizeAt, recordGate, gatesFrom}
 use Rattle.model.proofs.Bytes.{length-words}
 use Rattle.model.proofs.Words.{constant-ref, var-ref, input-ref}
-use Rattle.model.proofs.Order.{most-is, most-gt}
+use Rattle.model.proofs.Order.{most-le, most-gt}
 use Rattle.image.specs.Reader.{sizeOf, reachRef, reachOf, reachAll, reachFrom, namedReach, sortedReach, wiringFrom}
 use Rattle.image.specs.declared.signals.Wiring.{Wiring}
 use Rattle.image.proofs.Fits.{size-is, count-is}
@@ -60,29 +60,23 @@ pub ruleset signs = (high-input, reach-low, reach-input, reach-absent)
 
 -- ---- the greatest of two
 
-pub most-right : (a b : ℕ) → a ≤ b → b ≡ most a b
-most-right a b l = sym (most-is a b l)
-
-pub most-left : (a b : ℕ) → b < a → a ≡ most a b
-most-left a b l = sym (most-gt a b l)
-
-pub ruleset mosts = (most-right, most-left)
+pub ruleset mosts = (most-le, most-gt)
 
 zero-most : (a : ℕ) → a ≡ most 0 a
-zero-most a = most-right 0 a (omega arith)
+zero-most a = most-le 0 a (omega arith)
 
 most-zero : (a : ℕ) → most a 0 ≡ a
-most-zero a = elim (ℕ-discrete a 0) [ yes e ↦ rw e (sym (zero-most 0)) | no e ↦ sym (most-left a 0 (omega arith)) ]
+most-zero a = elim (ℕ-discrete a 0) [ yes e ↦ rw e (sym (zero-most 0)) | no e ↦ sym (most-gt a 0 (omega arith)) ]
 
 most-most : (a b c : ℕ) → most a (most b c) ≡ most (most a b) c
 most-most a b c = elim (decLe a b) [
   | yes l ↦ elim (decLe b c) [
-    | yes m ↦ rw (most-is b c m, most-is a b l, most-is a c (omega arith), most-is b c m)
-    | no m ↦ rw (most-gt b c (omega arith), most-is a b l, most-gt b c (omega arith))
+    | yes m ↦ rw (← most-le b c m, ← most-le a b l, ← most-le a c (omega arith), ← most-le b c m)
+    | no m ↦ rw (← most-gt b c (omega arith), ← most-le a b l, ← most-gt b c (omega arith))
   ]
   | no l ↦ elim (decLe b c) [
-    | yes m ↦ rw (most-is b c m, most-gt a b (omega arith))
-    | no m ↦ rw (most-gt b c (omega arith), most-gt a b (omega arith), most-gt a c (omega arith))
+    | yes m ↦ rw (← most-le b c m, ← most-gt a b (omega arith))
+    | no m ↦ rw (← most-gt b c (omega arith), ← most-gt a b (omega arith), ← most-gt a c (omega arith))
   ]
 ]
 
