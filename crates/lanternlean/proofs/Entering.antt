@@ -1,5 +1,5 @@
 -- The outside of every entry: 1, or its work over the first 16,384 words of both areas, which are then cleared.
--- The premises are what an entry's code meets: `areas_short`, the work's promise on the parts, and `clear`'s of each area.
+-- The premises are what an entry's code meets: `areas_short`, the work's promise on the parts, and `clear_areas`'s.
 use mathlib.Core.Path.{_≡_, refl, sym, ap, _∙_}
 use mathlib.Core.Bool.{Bool, true, false, cond, _||_}
 use mathlib.Core.List.{List, _++_}
@@ -13,9 +13,10 @@ use Rattle.answers.specs.declared.Answer.{Answer}
 use Rattle.answers.specs.declared.Answer.the-variants.{Refused}
 use Rattle.laws.proofs.Bools.{or-left, or-right}
 use Rattle.model.specs.Answers.{Outcome, areasShort, cleared, areaAfter, inAreas, Kept, Kept2}
-use Rattle.tables.specs.Working.{Answered, Answered2}
+use Rattle.tables.specs.Working.{Areas, Cleared, Answered, Answered2}
 
--- what `areas_short` found
+-- ---- what `areas_short` found
+
 module _ (a b : List ℕ) (t : Bool) (e : t ≡ areasShort a b) where
   module _ (s : t ≡ true) (o : Outcome) (out : List ℕ) where
     pub short-kept : Kept (inAreas a b o) out a b (Refused 1) out a b
@@ -38,29 +39,57 @@ module _ (a b : List ℕ) (t : Bool) (e : t ≡ areasShort a b) where
     unfolding areasShort
     long-b = ltb-false (length b) 16384 (or-right (ltb (length a) 16384) (ltb (length b) 16384) long)
 
-    module _ (a′ b′ : List ℕ) (ea : a′ ≡ cleared a) (eb : b′ ≡ cleared b) (o : Outcome) (out : List ℕ) (r : Answer) (out′ : List ℕ) where
-      pub work-kept : Answered o out r out′ → Kept (inAreas a b o) out a b r out′ a′ b′
-      unfolding inAreas areaAfter
-      work-kept D = record { answer = rw long (D .answer); result = rw long (D .result); area-a = rw long ea; area-b = rw long eb }
+    done : (a′ b′ : List ℕ) → Cleared a b a′ b′ → (o : Outcome) (out : List ℕ) (r : Answer) (out′ : List ℕ) → Answered o out r out′
+        → Kept (inAreas a b o) out a b r out′ a′ b′
+    unfolding inAreas areaAfter
+    done a′ b′ C o out r out′ D = record { answer = rw long (D .answer); result = rw long (D .result); area-a = rw long (C .area-a); area-b = rw long (C .area-b) }
 
-      pub work-kept2 : (second second′ : List ℕ) → Answered2 o out second r out′ second′ → Kept2 (inAreas a b o) out second a b r out′ second′ a′ b′
-      unfolding inAreas
-      work-kept2 second second′ D = record { first = work-kept (D .first); second-is = rw long (D .second-is) }
+    done2 : (a′ b′ : List ℕ) → Cleared a b a′ b′ → (o : Outcome) (out second : List ℕ) (r : Answer) (out′ second′ : List ℕ) → Answered2 o out second r out′ second′
+        → Kept2 (inAreas a b o) out second a b r out′ second′ a′ b′
+    unfolding inAreas
+    done2 a′ b′ C o out second r out′ second′ D = record { first = done a′ b′ C o out r out′ (D .first); second-is = rw long (D .second-is) }
 
--- the part that is lent
+-- ---- the part of an area that is lent, and comes back as x
+
 pub part-long : (l : List ℕ) → 16384 ≤ length l → 16384 ≤ length (take 16384 l)
 part-long l h = rw (length-take-le 16384 l h) (omega arith)
 
--- an area whose first words come back as x
 module _ (x l : List ℕ) (k : length x ≡ length (take 16384 l)) where
-  pub long-back : 16384 ≤ length l → 16384 ≤ length (x ++ drop 16384 l)
-  long-back h = rw (length-front l x 16384 k) h
-
-  pub cleared-back : 16384 ≤ length l → (l′ : List ℕ) → l′ ≡ cleared (x ++ drop 16384 l) → l′ ≡ cleared l
-  unfolding cleared
-  cleared-back h l′ e = e ∙ ap (λ (y : List ℕ). replicate 16384 0 ++ y) (drop-at x (drop 16384 l) 16384 (k ∙ length-take-le 16384 l h))
-
   pub same-back : (l′ : List ℕ) → length l′ ≡ length (x ++ drop 16384 l) → length l′ ≡ length l
   same-back l′ e = e ∙ length-front l x 16384 k
 
-pub ruleset enters = (short-kept, short-kept2, long-a, long-b, work-kept, work-kept2, part-long, long-back, cleared-back, same-back)
+  long-back : 16384 ≤ length l → 16384 ≤ length (x ++ drop 16384 l)
+  long-back h = rw (length-front l x 16384 k) h
+
+  cleared-back : 16384 ≤ length l → cleared (x ++ drop 16384 l) ≡ cleared l
+  unfolding cleared
+  cleared-back h = ap (λ (y : List ℕ). replicate 16384 0 ++ y) (drop-at x (drop 16384 l) 16384 (k ∙ length-take-le 16384 l h))
+
+-- ---- the areas when the work is done: what `clear_areas` asks, and the entry's promise
+
+module _ (a b : List ℕ) (t : Bool) (e : t ≡ areasShort a b) (s : t ≡ false) (x : List ℕ) (k : length x ≡ length (take 16384 a)) where
+  -- a lent alone
+  pub areas-one : Areas (x ++ drop 16384 a) b
+  areas-one = record { long-a = long-back x a k (long-a a b t e s); long-b = long-b a b t e s }
+
+  pub kept-one : (a′ b′ : List ℕ) → Cleared (x ++ drop 16384 a) b a′ b′ → (o : Outcome) (out : List ℕ) (r : Answer) (out′ : List ℕ) → Answered o out r out′
+      → Kept (inAreas a b o) out a b r out′ a′ b′
+  kept-one a′ b′ C = done a b t e s a′ b′ (record { area-a = C .area-a ∙ cleared-back x a k (long-a a b t e s); area-b = C .area-b })
+
+  -- both lent
+  module _ (y : List ℕ) (m : length y ≡ length (take 16384 b)) where
+    pub areas-both : Areas (x ++ drop 16384 a) (y ++ drop 16384 b)
+    areas-both = record { long-a = long-back x a k (long-a a b t e s); long-b = long-back y b m (long-b a b t e s) }
+
+    module _ (a′ b′ : List ℕ) (C : Cleared (x ++ drop 16384 a) (y ++ drop 16384 b) a′ b′) where
+      both : Cleared a b a′ b′
+      both = record { area-a = C .area-a ∙ cleared-back x a k (long-a a b t e s); area-b = C .area-b ∙ cleared-back y b m (long-b a b t e s) }
+
+      pub kept-both : (o : Outcome) (out : List ℕ) (r : Answer) (out′ : List ℕ) → Answered o out r out′ → Kept (inAreas a b o) out a b r out′ a′ b′
+      kept-both = done a b t e s a′ b′ both
+
+      pub kept-both2 : (o : Outcome) (out second : List ℕ) (r : Answer) (out′ second′ : List ℕ) → Answered2 o out second r out′ second′
+          → Kept2 (inAreas a b o) out second a b r out′ second′ a′ b′
+      kept-both2 = done2 a b t e s a′ b′ both
+
+pub ruleset enters = (short-kept, short-kept2, long-a, long-b, part-long)

@@ -1,1 +1,3 @@
 // The public entries: each promises its answer and every lent word afterwards, for every input.
+pub mod read;
+pub mod record;

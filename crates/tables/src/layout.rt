@@ -2,6 +2,7 @@ ghost use mathlib.Core.Path.{_≡_};
 ghost use Prim.Native.Nat.{ℕ, _+_, _-_, _*_, _<_, _≤_};
 ghost use lib.ListN.{length};
 ghost use Rattle.model.specs.Answers.{areasShort, cleared};
+ghost use Rattle.tables.specs.Working.{Areas, Cleared};
 ghost use Rattle.tables.specs.Layout.{netSize, kindIx, firstIx, countIx, kindAt, firstAt, countAt, inputAt, lowAt, highAt, outputAt, putGate, putInput, putTable, putOutput};
 
 const INS: usize = 1536;
@@ -141,4 +142,13 @@ pub fn clear(area: &mut [u32])
         area[i] = 0;
         i += 1;
     }
+}
+
+// Both areas, once the work is done.
+pub fn clear_areas(a: &mut [u32], b: &mut [u32])
+    requires { ⌜ Areas (now a) (now b) ⌝ }
+    ensures { λ _. ⌜ Cleared (now (a .entry)) (now (b .entry)) (now (a .exit)) (now (b .exit)) ⌝ }
+{
+    clear(a);
+    clear(b);
 }

@@ -13,6 +13,7 @@ use Rattle.model.specs.Gate.{Gate, isLut, fanin, size}
 use Rattle.model.specs.Image.{tableWords, gateWords, gatesWords, bodyWords, netWords, imageOf, bytes}
 use Rattle.model.proofs.Bytes.{length-bytes}
 use Rattle.shape.proofs.Sizes.{gates-length}
+use Rattle.shape.proofs.Written as shape
 use Rattle.tables.specs.Layout.{kindAt, countAt, lowAt, highAt, insAt, gateAt, nodesOf, outputsOf, netOf}
 use Rattle.tables.specs.Holding.{networkOf, Held}
 use Rattle.tables.specs.declared.counts.Counts.{Counts}
@@ -79,8 +80,8 @@ module _ (l : List ℕ) where
 
 module _ (l : List ℕ) (c : Counts) where
   pub length-image : length (imageOf (networkOf l c)) ≡ 4 * (length (gatesWords (nodesOf l (c .nodes))) + c .outs + 4)
-  unfolding imageOf netWords bodyWords networkOf netOf
-  length-image = length-bytes (netWords (networkOf l c)) ∙ rw (length-append, length-append, length-outputsOf) (omega arith)
+  unfolding bodyWords networkOf netOf
+  length-image = shape.length-image (networkOf l c) ∙ rw length-append (omega (arith, length-outputsOf l (c .outs)))
 
   pub words-few : Held l c → (v : ℕ) → v ≤ c .nodes → length (gatesWords (nodesOf l v)) ≤ 3584
   words-few H v h =
