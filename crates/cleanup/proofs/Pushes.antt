@@ -1,7 +1,7 @@
 -- Signals put on the stack, the last first.
 use mathlib.Core.Path.{_≡_, refl, sym, ap, ap₂, _∙_}
 use mathlib.Core.Bool.{Bool, true, false, not}
-use Prim.Native.Nat.{ℕ, zero, suc, _+_, _-_, _/_, _<_, _≤_}
+use Prim.Native.Nat.{ℕ, suc, _+_, _-_, _/_, _<_, _≤_}
 use native.Mathlib.Nat.{le-refl}
 use native.Mathlib.Omega.{arith}
 use native.Mathlib.Numerals.{add-one}
@@ -15,7 +15,7 @@ use Rattle.model.specs.Signal.{isVar}
 use Rattle.model.specs.Network.{vars}
 use Rattle.shape.specs.Forms.{Below}
 use Rattle.shape.proofs.Wires.{vars-one-node, vars-one-other, vars-append}
-use Rattle.tables.specs.Layout.{span, inputAt, outputAt, cell, store, markBase, stackBase}
+use Rattle.tables.specs.Layout.{span, inputAt, outputAt, store, markBase, stackBase}
 use Rattle.tables.proofs.Places.{length-store, cell-store, cell-store-other}
 use Rattle.remap.specs.Tables.{stackOf, insFrom}
 use Rattle.remap.proofs.Tabled.{stackOf-same}

@@ -1,6 +1,6 @@
 -- The walk over what outputs reach, in the tables; the order of what is marked; the whole.
 use mathlib.Core.Path.{_≡_, refl, sym, ap, ap₂, _∙_, subst}
-use mathlib.Core.Logic.{_≢_, _⊎_, inl, inr}
+use mathlib.Core.Logic.{_⊎_, inl, inr}
 use mathlib.Core.Bool.{Bool, true, false}
 use Prim.Native.Nat.{ℕ, zero, suc, _+_, _-_, _<_, _≤_, zero-le}
 use native.Mathlib.Omega.{arith}
@@ -11,7 +11,7 @@ use lib.ListN.{length}
 use Rattle.laws.specs.Bools.{bit}
 use Rattle.laws.specs.Lists.{tab}
 use Rattle.model.specs.Gate.{size}
-use Rattle.model.specs.Network.{vars, deps, upd, rising, pushIf, translation, remap, Walk, goAt, stepAt, walk, firstWalk, walkLeft, seen, cleanupOrder, cleanup}
+use Rattle.model.specs.Network.{vars, deps, rising, pushIf, translation, Walk, goAt, stepAt, walk, firstWalk, walkLeft, seen, cleanupOrder, cleanup}
 use Rattle.shape.proofs.Sums.{upd-same, upd-other, bit-pos, bit-zero, sum-same}
 use Rattle.shape.proofs.Cleanup.{K, lastWalk, turn, stay, first-K, walk-empty, cleanup-order}
 use Rattle.tables.specs.Layout.{span, firstAt, countAt, outputAt, cell, store, markBase, stackBase, orderBase}

@@ -1,9 +1,7 @@
 // network.rs, cleanup: what outputs reach, through flip-flops, in old order. `from` is read, `to` is written, and has the order, the
 // mapping, marks and the stack in the tables behind its network.
-ghost use mathlib.Core.Path.{_≡_};
 ghost use mathlib.Core.List.{[], _∷_};
-ghost use Prim.Native.Nat.{ℕ, _+_, _<_, _≤_};
-ghost use lib.ListN.{length};
+ghost use Prim.Native.Nat.{_+_, _<_};
 ghost use Rattle.laws.specs.Lists.{tab};
 ghost use Rattle.model.specs.Network.{vars};
 ghost use Rattle.tables.specs.Layout.{outputAt};

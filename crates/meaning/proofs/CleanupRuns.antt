@@ -2,14 +2,14 @@
 use mathlib.Core.Path.{_≡_}
 use Prim.Native.Nat.{ℕ, _<_}
 use native.Mathlib.Omega.{arith}
-use mathlib.Core.Bool.{Bool, true, false}
+use mathlib.Core.Bool.{Bool, true}
 use mathlib.Core.List.{List}
 use lib.ListN.{length}
 use Rattle.laws.proofs.Lists.{all-map, all-both}
 use Rattle.model.specs.Gate.{Net, gateAt, size, isTopoSorted, Valid}
 use Rattle.model.specs.Evaluate.{at, signalValue, Consistent, outputs, next, evaluate, Eval, Solves, runBy, run, afterBy, after, allZero, runFromZero}
 use Rattle.model.specs.Network.{translation, Reach, cleanupOrder, cleanup, sorts}
-use Rattle.model.proofs.Names.{Names, In}
+use Rattle.model.proofs.Names.{Names}
 use Rattle.model.proofs.Forward.{evaluate-sorted}
 use Rattle.shape.specs.Forms.{Ranked, Kept, Order}
 use Rattle.shape.proofs.Remap.{kept-inside}

@@ -1,22 +1,21 @@
 -- remap by an order: the result carries every kept node's value, and has the same outputs in every cycle.
-use mathlib.Core.Path.{_≡_, refl, sym, ap, ap₂, _∙_}
+use mathlib.Core.Path.{_≡_, refl, sym, ap, _∙_}
 use Prim.Native.Nat.{ℕ, _<_}
 use native.Mathlib.Omega.{arith}
-use mathlib.Core.Bool.{Bool, true, false}
+use mathlib.Core.Bool.{Bool}
 use mathlib.Core.List.{List, map}
 use lib.ListN.{length, getD}
 use Rattle.laws.proofs.Choices.{by-bool}
-use Rattle.laws.proofs.Lists.{all-at}
-use Rattle.model.specs.Signal.{fromVar, remapOrder}
-use Rattle.model.specs.Gate.{Gate, Net, isDff, remapGate, gateAt, size}
-use Rattle.model.specs.Evaluate.{at, signalValue, nextState, gateValue, shows, Consistent, outputs, next, evaluate, Eval, Solves, runBy, run, afterBy, after, allZero, runFromZero}
+use Rattle.model.specs.Signal.{remapOrder}
+use Rattle.model.specs.Gate.{Net, isDff, remapGate, gateAt, size}
+use Rattle.model.specs.Evaluate.{at, signalValue, nextState, shows, Consistent, outputs, next, evaluate, Eval, Solves, runBy, afterBy, allZero}
 use Rattle.model.specs.Network.{isD, translation, remap}
 use Rattle.model.proofs.Names.{In, values-cong}
 use Rattle.model.proofs.Forward.{shows-dff, shows-comb, gate-cong, evaluate-consistent}
 use Rattle.shape.specs.Forms.{Ranked, Kept, Order, Topo}
 use Rattle.shape.proofs.Remap.{remap-size, remap-outs, remap-gate, τ-at, gate-kept, kept-inside, order-length, remap-sorted, remap-ranked}
 use Rattle.meaning.proofs.Valuations.{value-node, pull, values-remap}
-use Rattle.meaning.proofs.Simulation.{CellTo, kept, Carries, Related, gate-remap, next-dff, pull-consistent, same-run, related-zero, probe}
+use Rattle.meaning.proofs.Simulation.{kept, Carries, Related, gate-remap, next-dff, pull-consistent, same-run, related-zero, probe}
 use Rattle.meaning.proofs.Runs.{next-beyond}
 
 -- a state or a valuation carried through the order: new node j is old node order[j]

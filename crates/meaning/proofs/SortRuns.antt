@@ -4,12 +4,11 @@ use Prim.Native.Nat.{ℕ, _<_}
 use native.Mathlib.Omega.{arith}
 use mathlib.Core.Bool.{Bool, true}
 use mathlib.Core.List.{List}
-use Rattle.model.specs.Gate.{Net, size, isTopoSorted, Valid}
+use Rattle.model.specs.Gate.{Net, size, Valid}
 use Rattle.model.specs.Evaluate.{at, signalValue, evaluate, Eval, Solves, runBy, run, afterBy, after, allZero, runFromZero}
 use Rattle.model.specs.Network.{translation, topoOrder, sorts, topoSort}
-use Rattle.model.proofs.Names.{Sorted}
-use Rattle.model.proofs.Forward.{evaluate-consistent, evaluate-sorted}
-use Rattle.shape.specs.Forms.{Ranked, Kept, Order, Topo}
+use Rattle.model.proofs.Forward.{evaluate-sorted}
+use Rattle.shape.specs.Forms.{Ranked, Kept, Order}
 use Rattle.shape.proofs.Wires.{wired-inside}
 use Rattle.shape.proofs.Remap.{remap-ranked}
 use Rattle.shape.proofs.Sort.{sort-order, sort-topo, sort-sorted, place}

@@ -1,29 +1,24 @@
 -- The laws of remap as the code meets them: a signal, a gate's inputs, the gates of the order, the outputs.
-use Prim.Native.Nat.{ℕ, zero, suc, _+_, _-_, _*_, _/_, _%_, _^_, _≤_, _<_, zero-le}
+use Prim.Native.Nat.{ℕ, zero, suc, _+_, _-_, _*_, _^_, _≤_, _<_}
 use mathlib.Core.Path.{_≡_, refl, sym, ap, ap₂, fun-ext, subst, _∙_}
-use mathlib.Core.Logic.{_≢_}
-use mathlib.Core.Bool.{Bool, true}
-use mathlib.Core.List.{List, [], _∷_, _++_, map}
+use mathlib.Core.Bool.{true}
+use mathlib.Core.List.{List, [], _∷_, _++_}
 use native.Mathlib.Nat.{le-refl}
 use native.Mathlib.Omega.{arith}
 use native.Mathlib.Numerals.{add-one}
 use native.Mathlib.Decide.{decLt}
 use lib.ListN.{length, getD, take, drop, length-drop}
 use lib.Seq.{take-all, getD-drop}
-use mir.Val.{Fits}
-use mir.Syntax.{w32}
 use Rattle.laws.specs.Lists.{tab}
 use Rattle.laws.proofs.Tabs.{map-tab}
 use Rattle.model.specs.Signal.{isVar, remapOrder}
 use Rattle.model.specs.Gate.{Gate, remapGate}
-use Rattle.model.specs.Network.{sumTo}
 use Rattle.shape.proofs.Wires.{var-low}
-use Rattle.tables.specs.Layout.{netSize, span, kindAt, firstAt, countAt, inputAt, insAt, lowAt, highAt, outputAt, gateAt, nodesOf, putGate, putInput, putOutput, putTable, cell, trBase, orderBase}
-use Rattle.tables.specs.Building.{putInputs, putNode, putOutputs, Packed}
+use Rattle.tables.specs.Layout.{span, kindAt, firstAt, countAt, inputAt, insAt, lowAt, highAt, outputAt, gateAt, putInput, putOutput, cell, trBase, orderBase}
+use Rattle.tables.specs.Building.{putInputs, putOutputs}
 use Rattle.tables.specs.declared.counts.Counts.{Counts}
 use Rattle.tables.proofs.Gates.{gate≡}
 use Rattle.tables.proofs.Building.{length-putInputs, putInputs-next, cell-putInputs, length-putNode, cell-putNode, nodesOf-none, nodesOf-putNode, packed-none, packed-putNode, length-putOutputs, putOutputs-next, cell-putOutputs}
-use Rattle.remap.specs.Tables.{Sound}
 use Rattle.remap.specs.Remapping.{inputsBy, outputsBy, Copying, Placing, Put, inputsOf, Mapping, gateBy, Moving, Mapped, OutMapping}
 
 -- ---- one signal, through the mapping behind the network

@@ -1,5 +1,5 @@
 -- The mapping, written node by node of the order.
-use Prim.Native.Nat.{ℕ, zero, suc, _+_, _-_, _*_, _≤_, _<_}
+use Prim.Native.Nat.{ℕ, suc, _+_, _≤_, _<_}
 use mathlib.Core.Path.{_≡_, refl, sym, ap, _∙_}
 use mathlib.Core.Logic.{_≢_}
 use mathlib.Core.List.{List, [], _∷_, _++_}
@@ -10,7 +10,7 @@ use lib.ListN.{length, getD, set, length-set, replicate, length-replicate}
 use lib.Seq.{getD-set-same, getD-set-other}
 use Rattle.model.specs.Signal.{fromVar}
 use Rattle.model.specs.Network.{fill, translation}
-use Rattle.tables.specs.Layout.{span, cell, store, trBase, orderBase}
+use Rattle.tables.specs.Layout.{cell, store, trBase, orderBase}
 use Rattle.tables.proofs.Places.{length-store, cell-store, cell-store-other}
 use Rattle.shape.proofs.Remap.{translation-removed}
 use Rattle.remap.specs.Tables.{orderFrom, clearedTable}

@@ -1,5 +1,5 @@
 -- Lists kept in the tables behind a network, and a held network word by word.
-use mathlib.Core.Path.{_≡_, refl, sym, ap, _∙_}
+use mathlib.Core.Path.{_≡_, refl, ap, _∙_}
 use mathlib.Core.Logic.{_≢_}
 use mathlib.Core.Bool.{Bool, true, false, cond}
 use Prim.Native.Nat.{ℕ, zero, suc, _+_, _<_, _≤_, zero-le}
@@ -18,7 +18,7 @@ use Rattle.laws.proofs.Tabs.{length-tab}
 use Rattle.model.specs.Gate.{Gate, isDff, size}
 use Rattle.model.specs.Network.{isD, deps, vars, sumTo, unseen}
 use Rattle.model.proofs.Names.{named-names}
-use Rattle.shape.specs.Forms.{Below, Inside, OutsInside}
+use Rattle.shape.specs.Forms.{Inside, OutsInside}
 use Rattle.shape.proofs.Sums.{sum-mono}
 use Rattle.shape.proofs.Wires.{names-below, vars-length, wired-inside, wired-outs-inside}
 use Rattle.tables.specs.Layout.{kindAt, firstAt, countAt, inputAt, insAt, outputAt, gateAt, outputsOf, netOf, cell, store, stackBase, orderBase}

@@ -1,30 +1,27 @@
 -- The network by an order of its nodes, from its parts.
 use Prim.Native.Nat.{ℕ, zero, suc, _+_, _≤_, _<_}
 use mathlib.Core.Path.{_≡_, refl, sym, ap, ap₂, fun-ext, _∙_}
-use mathlib.Core.Bool.{Bool, true}
 use mathlib.Core.List.{List, [], _∷_, _++_, map}
-use native.Mathlib.Nat.{le-refl}
 use native.Mathlib.Omega.{arith}
-use lib.ListN.{length, getD}
 use Rattle.laws.specs.Lists.{All, tab}
 use Rattle.laws.proofs.Lists.{all-at, all-of}
 use Rattle.laws.proofs.Tabs.{tab-ext, length-tab, getD-tab, map-tab}
 use Rattle.model.specs.Signal.{remapOrder}
-use Rattle.model.specs.Gate.{Gate, Net, remapGate, size}
+use Rattle.model.specs.Gate.{remapGate, size}
 use Rattle.model.specs.Gate as model
 use Rattle.model.specs.Network.{sumTo, translation, remap}
-use Rattle.shape.specs.Forms.{Below, Order}
+use Rattle.shape.specs.Forms.{Below}
 use Rattle.shape.proofs.Sums.{sumOver, sum-distinct}
 use Rattle.shape.proofs.Wires.{remap-same}
 use Rattle.shape.proofs.Remap.{order-length, remap-valid}
-use Rattle.tables.specs.Layout.{netSize, span, firstAt, countAt, inputAt, insAt, outputAt, gateAt, nodesOf, outputsOf, netOf, cell, trBase, orderBase}
+use Rattle.tables.specs.Layout.{firstAt, countAt, inputAt, insAt, outputAt, gateAt, nodesOf, outputsOf, netOf, cell, trBase, orderBase}
 use Rattle.tables.specs.Building.{putOutputs}
-use Rattle.tables.specs.Holding.{networkOf, Holds}
+use Rattle.tables.specs.Holding.{networkOf}
 use Rattle.tables.specs.declared.counts.Counts.{Counts}
 use Rattle.tables.proofs.Gates.{gate≡}
 use Rattle.tables.proofs.Building.{length-putOutputs, cell-putOutputs, nodesOf-putOutputs, packed-putOutputs, outputsOf-putOutputs}
 use Rattle.tables.proofs.Holding.{size-network, gate-network, holds}
-use Rattle.remap.specs.Tables.{Sound, orderFrom}
+use Rattle.remap.specs.Tables.{orderFrom}
 use Rattle.remap.specs.Remapping.{outputsBy, inputsOf, Mapping, gateBy, Mapped, OutMapping, Numbering, Numbered, withNodes, Orders, Remapped}
 use Rattle.remap.proofs.Tabled.{length-orderFrom, orderFrom-tab}
 

@@ -1,7 +1,7 @@
 // network.rs, remap: a network taken over by an order of its nodes. `from` is read, `to` is written, and has the order and the
 // mapping in the tables behind its network.
 ghost use mathlib.Core.Path.{_≡_};
-ghost use Prim.Native.Nat.{ℕ, _+_, _-_, _*_, _/_, _<_, _≤_};
+ghost use Prim.Native.Nat.{_+_, _<_, _≤_};
 ghost use lib.ListN.{length};
 ghost use Rattle.model.specs.Signal.{remapOrder};
 ghost use Rattle.tables.specs.Layout.{span, cell, trBase};

@@ -1,6 +1,7 @@
+// Signals by the node that they name, and a cleared table.
 ghost use mathlib.Core.Path.{_≡_};
 ghost use mathlib.Core.Bool.{true};
-ghost use Prim.Native.Nat.{ℕ, _+_, _-_, _/_, _<_, _≤_};
+ghost use Prim.Native.Nat.{_+_, _-_, _/_, _<_, _≤_};
 ghost use lib.ListN.{length};
 ghost use Rattle.model.specs.Signal.{isVar};
 ghost use Rattle.remap.specs.Tables.{clearedTable};

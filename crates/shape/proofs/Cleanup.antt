@@ -1,20 +1,20 @@
 -- cleanup: it keeps exactly what outputs reach; its result is valid, no larger, and sorted where the source is.
 use mathlib.Core.Path.{_≡_, refl, sym, ap, _∙_}
 use mathlib.Core.Logic.{_⊎_, inl, inr}
-use Prim.Native.Nat.{ℕ, zero, suc, _+_, _≤_, _<_}
+use Prim.Native.Nat.{ℕ, zero, suc, _≤_, _<_}
 use native.Mathlib.Nat.{not-suc-le-zero, le-refl}
 use native.Mathlib.Omega.{arith}
 use native.Mathlib.Decide.{ℕ-discrete}
-use mathlib.Core.Bool.{Bool, true, false, cond}
-use mathlib.Core.List.{List, [], _∷_, _++_}
+use mathlib.Core.Bool.{true, false, cond}
+use mathlib.Core.List.{List, [], _∷_}
 use lib.ListN.{length, getD, length-append}
 use Rattle.laws.specs.Lists.{All}
 use Rattle.laws.proofs.Lists.{all-map, all-at, all-append, all-both}
 use Rattle.laws.proofs.Choices.{by-bool, clash}
 use Rattle.model.specs.Gate.{Net, gateAt, size, fanin, combs, wired, isTopoSorted, Valid}
-use Rattle.model.specs.Network.{vars, deps, has, upd, sumTo, Reach, out, through, Walk, goAt, stepAt, walk, firstWalk, unseen, walkLeft, seen, cleanupOrder, cleanup, translation}
-use Rattle.model.proofs.Names.{Names, In, Sorted, sorted, sorted-test}
-use Rattle.shape.specs.Forms.{Inside, OutsInside, Kept, Before, Order, Topo}
+use Rattle.model.specs.Network.{vars, deps, has, upd, Reach, out, through, Walk, goAt, stepAt, walk, firstWalk, unseen, walkLeft, seen, cleanupOrder, cleanup, translation}
+use Rattle.model.proofs.Names.{Names, sorted, sorted-test}
+use Rattle.shape.specs.Forms.{Inside, OutsInside, Kept, Order, Topo}
 use Rattle.shape.proofs.Sums.{upd-same, upd-other, sum-update}
 use Rattle.shape.proofs.Members.{has-left, has-right, has-tail, has-index, all-has, has-all, rising-all, rising-bound, rising-has, rising-distinct, rising-index}
 use Rattle.shape.proofs.Wires.{vars-in, wired-inside, wired-outs-inside}

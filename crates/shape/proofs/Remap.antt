@@ -1,7 +1,6 @@
 -- remap by an order: where each node goes; the result is valid, sorted where the order is, and no larger than its source.
 use mathlib.Core.Path.{_≡_, refl, sym, ap, ap₂, _∙_}
-use mathlib.Core.Logic.{_≢_}
-use Prim.Native.Nat.{ℕ, zero, suc, _+_, _*_, _/_, _≤_, _<_, zero-le}
+use Prim.Native.Nat.{ℕ, zero, suc, _+_, _≤_, _<_}
 use native.Mathlib.Nat.{not-suc-le-zero, le-of-suc-le-suc}
 use native.Mathlib.Omega.{arith}
 use native.Mathlib.Decide.{ℕ-discrete}
@@ -9,7 +8,7 @@ use mathlib.Core.Bool.{Bool, true, false, not, _&&_}
 use mathlib.Core.List.{List, [], _∷_, map}
 use lib.ListN.{length, getD, set, length-map, length-set, replicate, length-replicate}
 use lib.Seq.{getD-set-same, getD-set-other}
-use lib.Dec.{ltb, eqb}
+use lib.Dec.{ltb}
 use borrow.Author.Tests.{lt-ltb, ne-eqb}
 use Rattle.laws.specs.Bools.{xor, bit}
 use Rattle.laws.specs.Lists.{All, Fresh, Distinct}
@@ -17,13 +16,13 @@ use Rattle.laws.proofs.Lists.{all-map, all-at, all-of, getD-map-in}
 use Rattle.laws.proofs.Bools.{and-left, and-right, and-both}
 use Rattle.laws.proofs.Choices.{clash}
 use Rattle.model.specs.Signal.{Ref, rzero, rnode, rinput, ref, wordOf, isInverted, flip, fromVar, remapOrder, remapRef}
-use Rattle.model.specs.Gate.{Gate, Net, isDff, remapGate, noGate, gateAt, size, shaped, allShaped, fanin, combs, namedRef, named, allNamed, gatesNamed, wired, isTopoSorted, Valid}
+use Rattle.model.specs.Gate.{Gate, Net, isDff, remapGate, noGate, gateAt, size, shaped, allShaped, fanin, combs, namedRef, named, allNamed, gatesNamed, wired, Valid}
 use Rattle.model.specs.Network.{isD, has, sumTo, fill, translation, remap}
 use Rattle.model.proofs.Words.{flip-ref, node-ref}
-use Rattle.model.proofs.Names.{Names, In, node-names, in-remap, Sorted, sorted-test, wired-gate, wired-outs}
+use Rattle.model.proofs.Names.{Names, In, node-names, in-remap, Sorted, wired-gate, wired-outs}
 use Rattle.shape.specs.Forms.{Ranked, Kept, Before, Order, Topo}
 use Rattle.shape.proofs.Sums.{bit-le, sumOver, sum-distinct, length-distinct}
-use Rattle.shape.proofs.Members.{has-head, has-cons}
+use Rattle.shape.proofs.Members.{has-head}
 
 -- ---- the translation
 

@@ -7,7 +7,7 @@ use native.Mathlib.Nat.{not-suc-le-zero, le-of-suc-le-suc, le-refl}
 use native.Mathlib.Omega.{arith}
 use native.Mathlib.Decide.{decLt}
 use mathlib.Core.Bool.{Bool, true, false, not, cond, _&&_}
-use mathlib.Core.List.{List, [], _∷_, _++_}
+use mathlib.Core.List.{List, [], _∷_}
 use lib.ListN.{length, getD, length-append, List·getD-append}
 use lib.Seq.{getD-append-add}
 use borrow.Author.Tests.{eqb-true, eq-eqb}
@@ -17,7 +17,7 @@ use Rattle.laws.proofs.Lists.{all-map, all-at, all-append, distinct-append, dis
 use Rattle.laws.proofs.Choices.{by-bool, clash}
 use Rattle.model.specs.Gate.{Net, gateAt, size, fanin, combs, wired, isTopoSorted, Valid}
 use Rattle.model.specs.Network.{vars, isD, deps, has, occ, sumTo, waits, rising, sortResult, topoOrder, sorts, topoSort}
-use Rattle.model.proofs.Names.{In, Sorted, sorted, sorted-test}
+use Rattle.model.proofs.Names.{Sorted, sorted, sorted-test}
 use Rattle.shape.specs.Forms.{Inside, OutsInside, Ranked, Kept, Before, Order, Topo}
 use Rattle.shape.proofs.Sums.{sum-has, sum-pos, sum-add, sum-le, sum-full, sum-ones}
 use Rattle.shape.proofs.Members.{has-left, has-right, has-index, all-has, has-all, occ-has, rising-all, rising-bound, rising-has, rising-distinct, rising-length, rising-index}

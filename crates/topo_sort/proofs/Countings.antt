@@ -1,6 +1,6 @@
 -- What the counts come to.
 use mathlib.Core.Path.{_≡_, refl, sym, ap, _∙_}
-use mathlib.Core.Bool.{Bool, true, false, cond, not}
+use mathlib.Core.Bool.{Bool, true, false, not}
 use Prim.Native.Nat.{ℕ, zero, suc, _+_, _-_, _*_, _/_, _<_, _≤_}
 use native.Mathlib.Nat.{le-refl}
 use native.Mathlib.Omega.{arith}
@@ -16,7 +16,7 @@ use Rattle.laws.specs.Lists.{tab}
 use Rattle.laws.proofs.Choices.{by-bool}
 use Rattle.laws.proofs.Tabs.{length-tab}
 use Rattle.model.specs.Signal.{isVar}
-use Rattle.model.specs.Network.{users, waits, isD, vars, occ, sumTo}
+use Rattle.model.specs.Network.{waits, isD, vars, occ, sumTo}
 use Rattle.shape.specs.Forms.{Below}
 use Rattle.shape.proofs.Sums.{bit-is, bit-isnt}
 use Rattle.shape.proofs.Members.{occ-append, occ-length}

@@ -1,7 +1,7 @@
 -- Flip-flops go before what is ordered, and what the whole comes to.
 use mathlib.Core.Path.{_≡_, refl, sym, ap, ap₂, _∙_}
 use mathlib.Core.Bool.{Bool, true, false}
-use Prim.Native.Nat.{ℕ, zero, suc, _+_, _-_, _<_, _≤_}
+use Prim.Native.Nat.{ℕ, suc, _+_, _-_, _<_, _≤_}
 use native.Mathlib.Omega.{arith}
 use native.Mathlib.Numerals.{add-one}
 use mathlib.Core.List.{List, [], _∷_, _++_, append-assoc, append-nil}
@@ -9,7 +9,7 @@ use lib.ListN.{length, length-append}
 use borrow.Author.Tests.{eq-eqb, ne-eqb}
 use Rattle.kinds.specs.Kinds.{kindOf, isFlipFlop}
 use Rattle.model.specs.Gate.{size}
-use Rattle.model.specs.Network.{isD, topoOrder, rising, pushIf, sorts, topoSort, translation, remap}
+use Rattle.model.specs.Network.{isD, topoOrder, rising, pushIf, sorts, topoSort, translation}
 use Rattle.shape.proofs.Sort.{sort-order}
 use Rattle.tables.specs.Layout.{kindAt, cell, store, orderBase}
 use Rattle.tables.specs.Holding.{networkOf}

@@ -1,7 +1,7 @@
 -- How the search starts.
 use mathlib.Core.Path.{_≡_, refl, sym, ap, ap₂, _∙_}
 use mathlib.Core.Bool.{Bool, true, false, not, _&&_}
-use Prim.Native.Nat.{ℕ, zero, suc, _+_, _-_, _<_, _≤_, zero-le}
+use Prim.Native.Nat.{ℕ, _+_, _-_, _<_, _≤_, zero-le}
 use native.Mathlib.Nat.{not-suc-le-zero, le-refl}
 use native.Mathlib.Omega.{arith}
 use native.Mathlib.Numerals.{add-one}
@@ -15,7 +15,7 @@ use Rattle.laws.specs.Bools.{bit}
 use Rattle.model.specs.Gate.{Net, size}
 use Rattle.model.specs.Network.{users, isD, descend, pushIf, begin, searchLeft}
 use Rattle.shape.proofs.Search.{ready, begin-J}
-use Rattle.tables.specs.Layout.{span, kindAt, cell, store, countBase, markBase, stackBase}
+use Rattle.tables.specs.Layout.{kindAt, cell, store, countBase, markBase, stackBase}
 use Rattle.tables.specs.Holding.{networkOf}
 use Rattle.tables.specs.declared.counts.Counts.{Counts}
 use Rattle.tables.proofs.Places.{length-store, cell-store, cell-store-other}
@@ -23,7 +23,7 @@ use Rattle.tables.proofs.Holding.{size-network}
 use Rattle.remap.specs.Tables.{Sound, stackOf, orderFrom}
 use Rattle.remap.proofs.Tabled.{stackOf-same, length-stackOf, isD-at, unseen-most}
 use Rattle.topo_sort.specs.Counting.{Counted}
-use Rattle.topo_sort.specs.Searching.{Started, Rep, Live}
+use Rattle.topo_sort.specs.Searching.{Started, Live}
 
 pub start-zero : (from l : List ℕ) (c : Counts) → Sound from c → Counted from l c → Started from l c 0 0
 unfolding stackOf

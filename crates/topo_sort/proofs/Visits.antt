@@ -16,17 +16,15 @@ use Rattle.model.specs.Network.{Search, search, sortResult, searchLeft, nextAt,
 use Rattle.shape.proofs.Sums.{upd-same, upd-other, bit-pos, bit-zero, bit-le, sum-same, sum-le}
 use Rattle.shape.proofs.Search.{J, turn, stay, result-empty, down-cong}
 use Rattle.shape.proofs.Sort.{order-most}
-use Rattle.shape.proofs.Wires.{vars-all}
 use Rattle.tables.specs.Layout.{span, firstAt, countAt, cell, store, countBase, markBase, stackBase, orderBase}
 use Rattle.tables.specs.Holding.{networkOf}
 use Rattle.tables.specs.declared.counts.Counts.{Counts}
 use Rattle.tables.proofs.Places.{length-store, cell-store, cell-store-other}
 use Rattle.tables.proofs.Holding.{size-network}
-use Rattle.remap.specs.Tables.{Sound, insFrom, stackOf, orderFrom}
+use Rattle.remap.specs.Tables.{insFrom, stackOf, orderFrom}
 use Rattle.remap.proofs.Tabled.{stackOf-same, orderFrom-same, length-stackOf, length-orderFrom, deps-at, held-inside, mark-cond}
 use Rattle.topo_sort.specs.Searching.{downIns, Lowered, Downs, Rep, Live, leftOf, Turned}
 use Rattle.topo_sort.specs.Sorts.{Flips}
-use Rattle.topo_sort.specs.declared.search.Turn.{Turn}
 use Rattle.topo_sort.proofs.Downs.{DownRel, down-rel}
 
 -- the measure is the model's

@@ -1,6 +1,5 @@
+// How often each node is named by combinational gates.
 ghost use mathlib.Core.Path.{_≡_};
-ghost use Prim.Native.Nat.{ℕ, _≤_};
-ghost use lib.ListN.{length};
 ghost use Rattle.topo_sort.specs.Counting.{countOne, countIns, countGate, CanCount, Counting, GateTurn, Counted};
 ghost use Rattle.topo_sort.specs.Sorts.{Sortable};
 use kinds::is_flip_flop_code;

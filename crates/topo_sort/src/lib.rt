@@ -1,8 +1,5 @@
 // network.rs, topo_sort: `from` is read, `to` is written, and has the order, the mapping, counts, marks and the stack in the tables
 // behind its network.
-ghost use mathlib.Core.Path.{_≡_};
-ghost use Prim.Native.Nat.{ℕ, _≤_};
-ghost use lib.ListN.{length};
 ghost use Rattle.topo_sort.specs.Sorts.{Sortable, Ordering, Sorted};
 use crate::count::count_deps;
 use crate::order::put_flip_flops;

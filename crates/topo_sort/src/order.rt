@@ -1,6 +1,5 @@
-ghost use mathlib.Core.Path.{_≡_};
-ghost use Prim.Native.Nat.{ℕ, _+_, _≤_};
-ghost use lib.ListN.{length};
+// Flip-flops, put before what the search has ordered.
+ghost use Prim.Native.Nat.{_+_};
 ghost use Rattle.topo_sort.specs.Sorts.{Flips};
 use kinds::is_flip_flop_code;
 use tables::counts::Counts;

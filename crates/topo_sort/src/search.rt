@@ -1,6 +1,5 @@
-ghost use mathlib.Core.Path.{_≡_};
-ghost use Prim.Native.Nat.{ℕ, _+_, _<_, _≤_};
-ghost use lib.ListN.{length};
+// The search by a stack: the last pushed is the first taken, and a node comes after all the gates that name it.
+ghost use Prim.Native.Nat.{_+_, _<_};
 ghost use Rattle.remap.specs.Tables.{Sound};
 ghost use Rattle.topo_sort.specs.Counting.{Counted};
 ghost use Rattle.topo_sort.specs.Searching.{Started, CanDown, Downs, downOne, downIns, Lowered, Live, Turned};
