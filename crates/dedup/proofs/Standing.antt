@@ -21,9 +21,8 @@ use Rattle.tables.specs.Layout.{netSize, trBase, kindAt, firstAt, countAt, inpu
 use Rattle.tables.specs.Building.{Packed, putInputs, putNode}
 use Rattle.tables.proofs.Places.{Agree, kindAt-agree, firstAt-agree, countAt-agree, inputAt-agree, lowAt-agree, highAt-agree, length-store, firstAt-putTable, firstAt-putGate}
 use Rattle.tables.proofs.Gates.{gateAt-same}
-use Rattle.tables.proofs.Nets.{fanin-append, fanin-one}
 use Rattle.tables.proofs.Building.{length-putInputs, length-putNode, firstAt-putNode, gateAt-putNode-other, nodesOf-same, nodesOf-putNode, packed-putNode}
-use Rattle.tables.proofs.Holding.{length-nodesOf}
+use Rattle.tables.proofs.Holding.{length-nodesOf, fanin-append, fanin-one}
 use Rattle.gates.specs.declared.Normalization.{Normalization}
 use Rattle.gates.specs.declared.Normalization.the-variants.{Copy, Node}
 use Rattle.gates.specs.Normals.{normalOf}

@@ -5,24 +5,21 @@ use Prim.Native.Nat.{ℕ, zero, suc, _+_, _≤_, _<_}
 use native.Mathlib.Nat.{le-refl, not-suc-le-zero}
 use native.Mathlib.Omega.{arith}
 use native.Mathlib.Decide.{ℕ-discrete, decLt}
-use mathlib.Core.Bool.{Bool, true, false, not, cond, true≢false}
+use mathlib.Core.Bool.{Bool, true, false, not, cond}
 use mathlib.Core.List.{List, [], _∷_, _++_, map}
 use lib.ListN.{length, getD, length-map}
 use Rattle.laws.specs.Bools.{bit}
 use Rattle.laws.specs.Lists.{All}
 use Rattle.laws.proofs.Lists.{all-map, getD-map-in}
-use Rattle.laws.proofs.Choices.{by-bool}
+use Rattle.laws.proofs.Choices.{by-bool, clash}
 use Rattle.model.specs.Signal.{Ref, rzero, rnode, rinput, ref, isInverted, flip, fromVar, remapOrder, remapRef}
-use Rattle.model.specs.Gate.{Gate, Net, isDff, remapGate, noGate, gateAt, size, shaped, allShaped, fanin, wired, isTopoSorted, Valid}
+use Rattle.model.specs.Gate.{Gate, Net, isDff, remapGate, noGate, gateAt, size, shaped, allShaped, fanin, combs, wired, isTopoSorted, Valid}
 use Rattle.model.specs.Normal.{Norm, copied, made}
 use Rattle.model.specs.Network.{Work, dedupNode, dedupDffs, dedupCombs, remapDff, dedupWith, dedupMap}
 use Rattle.shape.proofs.Named.{Here, here-zero, here-var, here-flip, here-more, here-node, here-remap, all-remap, shaped-at, shaped-all, wired-ins, wired-outs, wired-all, sorted-ins, sorted-all}
 use Rattle.shape.proofs.DedupNormal.{Closed, Form, Fit, NormLaw}
 use Rattle.shape.proofs.DedupPlace.{At, Ext, Result, result-ext, Put, put-is}
-use Rattle.shape.proofs.DedupSweep.{total, fanin-total, length-total, shaped-remap, isD, askedGate, asked, upTo, upTo-start, sweep, due, due-total, due-most, upTo-turn, asked-comb, asked-cell, asked-kind, count, inputs, combs, combOf}
-
-clash {ℓ} : {X : Type ℓ} {b : Bool} → b ≡ true → b ≡ false → X
-clash p q = absurd (true≢false (sym p ∙ q))
+use Rattle.shape.proofs.DedupSweep.{total, fanin-total, length-total, shaped-remap, isD, askedGate, asked, upTo, upTo-start, sweep, due, due-total, due-most, upTo-turn, asked-comb, asked-cell, count, inputs, gates, combOf, combs-total}
 
 here-closed : (i n : ℕ) → Closed (Here i n)
 here-closed i n = record { has-zero = here-zero i n; has-flip = λ s b h. here-flip i n s b h }
@@ -270,12 +267,12 @@ module _ (norm : Gate → Norm) (law : NormLaw norm) (N : Net) (ok : Valid N) (s
       rw (fanin-total (result .nodes), fanin-total (N .nodes), result-nodes) (omega (arith, fanin-total (W .news)))
 
   -- NO MORE COMBINATIONAL GATES than before
-  pub dedup-combs : total combOf (result .nodes) ≤ total combOf (N .nodes)
+  pub dedup-combs : combs (result .nodes) ≤ combs (N .nodes)
   dedup-combs =
       let a = total-turned combOf (W .trans) (λ g. ap (λ b. bit (not b)) (turned-dff (W .trans) g)) (W .news) in
-      let b = combs norm N law (ok .gates-shaped) false (size N) (le-refl _) in
+      let b = gates norm N law (ok .gates-shaped) false (size N) (le-refl _) in
       let c = due-total norm N combOf in
-      rw result-nodes (omega arith)
+      rw (combs-total (result .nodes), combs-total (N .nodes), result-nodes) (omega (arith, combs-total (W .news)))
 
   -- THE MAPPING: every old node's signal names something that is there
   pub dedup-mapped : (v : ℕ) → v < size N → Here (result .inputs) (size result) (dedupMap norm N v)

@@ -3,7 +3,7 @@ use mathlib.Core.Path.{_≡_, refl, sym, ap, _∙_, subst}
 use mathlib.Core.Logic.{_⊎_, inl, inr}
 use Prim.Native.Nat.{ℕ, zero, suc, _+_, _/_, _^_, _≤_, _<_}
 use native.Mathlib.Omega.{arith}
-use mathlib.Core.Bool.{Bool, true, false, not, cond, _&&_, false≢true}
+use mathlib.Core.Bool.{Bool, true, false, not, cond, _&&_}
 use mathlib.Core.List.{List, [], _∷_, map}
 use lib.ListN.{length, length-map}
 use lib.Dec.{eqb, leb, ltb}
@@ -14,13 +14,14 @@ use Rattle.kinds.specs.declared.Kind.the-variants.{And2, Xor2, And3, Xor3, Maj,
 use Rattle.kinds.proofs.Codes.{code-kind}
 use Rattle.laws.specs.Bools.{xor}
 use Rattle.laws.specs.Lists.{All}
-use Rattle.laws.proofs.Bools.{and-left, and-right, and-both}
+use Rattle.laws.proofs.Bools.{true-false, and-left, and-right}
 use Rattle.laws.proofs.Choices.{by-bool, by-eq, by-or2, by-or3, by-test}
 use Rattle.model.specs.Signal.{isInverted, wordOf, flip, neg, withoutInversion, fromBool}
 use Rattle.model.specs.Gate.{Gate, isDff, isLut, fitsKind, fitsCode, fitsTable, shaped}
 use Rattle.model.specs.Normal.{Norm, copied, made, gateOf, made2, made3, least, most, low3, mid3, high3, andSorted, makeAnd, xorSorted, makeXor, and3Sorted, makeAnd3, xor3Sorted, makeXor3, muxPlain, muxSelect, makeMux, majPlain, majSorted, makeMaj, makeDff, keep, without, insert, sorted, uniq, opposed, andSome, andWide, andTidy, makeAndN, parity, cancel, xorSome, makeXorN, on1, on2, on3, normalK, makeCanonical}
 use Rattle.model.specs.Network.{asIs}
-use Rattle.model.proofs.Words.{flip-false, one-is, plain-ind, plain-inv}
+use Rattle.model.proofs.Words.{flip-false, one-is}
+use Rattle.model.proofs.Lists.{sorted-all, without-all, uniq-all, cancel-all}
 
 -- a set of signals that has zero, and each signal with its inverse
 pub record Closed (S : ℕ → Type 0) : Type 0 where
@@ -45,44 +46,10 @@ pub record NormLaw (norm : Gate → Norm) : Type 1 where
   -- a flip-flop stays as it is, or becomes zero
   pub of-cell : (g : Gate) → shaped g ≡ true → isDff g ≡ true → (norm g ≡ made g false) ⊎ (norm g ≡ copied 0)
 
-false-true {ℓ} : {X : Type ℓ} → false ≡ true → X
-false-true e = absurd (false≢true e)
-
 no-gate : {s : ℕ} {g : Gate} {z : Bool} {X : Type 0} → copied s ≡ made g z → X
 no-gate e = let z : _≡_ {A = ℕ} 0 1 = cc in absurd (omega arith)
 
 -- ---- lists that only lose or reorder their elements
-
-keep-all {ℓ} : (P : ℕ → Type ℓ) (t : Bool) (y : ℕ) (l : List ℕ) → P y → All P l → All P (keep t y l)
-keep-all P true y l p h = h
-keep-all P false y l p h = (p, h)
-
-pub insert-all {ℓ} : (Q : ℕ → Type ℓ) (x : ℕ) (l : List ℕ) → Q x → All Q l → All Q (insert x l)
-unfolding insert
-insert-all Q x [] q h = (q, tt)
-insert-all Q x (y ∷ l) q h = by-test (All Q) (leb x y) (λ e. (q, h)) (λ e. (h .0, insert-all Q x l q (h .1)))
-
-pub sorted-all {ℓ} : (Q : ℕ → Type ℓ) (l : List ℕ) → All Q l → All Q (sorted l)
-unfolding sorted
-sorted-all Q [] h = tt
-sorted-all Q (x ∷ l) h = insert-all Q x (sorted l) (h .0) (sorted-all Q l (h .1))
-
-pub without-all {ℓ} : (P : ℕ → Type ℓ) (x : ℕ) (l : List ℕ) → All P l → All P (without x l)
-unfolding without
-without-all P x [] h = tt
-without-all P x (y ∷ l) h = keep-all P (eqb y x) y (without x l) (h .0) (without-all P x l (h .1))
-
-pub uniq-all {ℓ} : (Q : ℕ → Type ℓ) (l : List ℕ) → All Q l → All Q (uniq l)
-unfolding uniq
-uniq-all Q [] h = tt
-uniq-all Q (x ∷ []) h = h
-uniq-all Q (x ∷ y ∷ l) h = keep-all Q (eqb x y) x (uniq (y ∷ l)) (h .0) (uniq-all Q (y ∷ l) (h .1))
-
-pub cancel-all {ℓ} : (Q : ℕ → Type ℓ) (l : List ℕ) → All Q l → All Q (cancel l)
-unfolding cancel
-cancel-all Q [] h = tt
-cancel-all Q (x ∷ []) h = h
-cancel-all Q (x ∷ y ∷ l) h = by-test (All Q) (eqb x y) (λ e. cancel-all Q l (h .1 .1)) (λ e. (h .0, cancel-all Q (y ∷ l) (h .1)))
 
 -- at most n elements
 record Short (n : ℕ) (l : List ℕ) : Type 0 where
@@ -383,20 +350,20 @@ asIs-law = record { of-comb = same-form; of-cell = λ g s d. inl refl }
 -- flip-flops have no table: their gate is its kind and inputs
 only-dff : (t : Kind) → isFlipFlop t ≡ true → t ≡ Dff
 only-dff Dff e = refl
-only-dff And2 e = false-true e
-only-dff Xor2 e = false-true e
-only-dff And3 e = false-true e
-only-dff Xor3 e = false-true e
-only-dff Maj e = false-true e
-only-dff Mux e = false-true e
-only-dff AndN e = false-true e
-only-dff OrN e = false-true e
-only-dff NandN e = false-true e
-only-dff NorN e = false-true e
-only-dff XorN e = false-true e
-only-dff XnorN e = false-true e
-only-dff Buf e = false-true e
-only-dff Lut e = false-true e
+only-dff And2 e = true-false (sym e)
+only-dff Xor2 e = true-false (sym e)
+only-dff And3 e = true-false (sym e)
+only-dff Xor3 e = true-false (sym e)
+only-dff Maj e = true-false (sym e)
+only-dff Mux e = true-false (sym e)
+only-dff AndN e = true-false (sym e)
+only-dff OrN e = true-false (sym e)
+only-dff NandN e = true-false (sym e)
+only-dff NorN e = true-false (sym e)
+only-dff XorN e = true-false (sym e)
+only-dff XnorN e = true-false (sym e)
+only-dff Buf e = true-false (sym e)
+only-dff Lut e = true-false (sym e)
 
 pub dff-is : (g : Gate) → shaped g ≡ true → isDff g ≡ true → g ≡ gateOf Dff (g .ins)
 unfolding shaped fitsCode fitsTable

@@ -10,12 +10,13 @@ use mathlib.Core.Option.{Option, none, some, Option·map}
 use lib.ListN.{length, getD, length-append, List·getD-append}
 use lib.Seq.{getD-append-seam}
 use lib.Dec.{eqb}
-use borrow.Author.Tests.{eqb-true, eq-eqb, ne-eqb}
+use borrow.Author.Tests.{eqb-true}
 use Rattle.laws.proofs.Bools.{and-left, and-right}
 use Rattle.model.specs.Signal.{flip, fromVar}
 use Rattle.model.specs.Gate.{Gate, noGate}
 use Rattle.model.specs.Normal.{Norm, copied, made}
-use Rattle.model.specs.Network.{upd, sameList, sameGate, findStep, findGate, Place, placeAt, place, Work, dedupNode}
+use Rattle.model.specs.Network.{sameList, sameGate, findStep, findGate, Place, placeAt, place, Work, dedupNode}
+use Rattle.shape.proofs.Sums.{upd-same, upd-other}
 
 -- ---- equal gates
 
@@ -98,12 +99,6 @@ pub result-ext : (nm : Norm) (t : ℕ) (a b : List Gate) → Ext a b → Result 
 result-ext (copied s) t a b x r = r
 result-ext (made g c) t a b x r =
     (r .0, record { inside = (let l = r .1 .inside in let m = x .longer in omega arith); there = x .same (r .0) (r .1 .inside) ∙ r .1 .there }, r .2)
-
-pub upd-same : (τ : ℕ → ℕ) (k s : ℕ) → upd τ k s k ≡ s
-upd-same τ k s = rw (eq-eqb k k refl)
-
-pub upd-other : (τ : ℕ → ℕ) (k s v : ℕ) → v ≢ k → upd τ k s v ≡ τ v
-upd-other τ k s v h = rw (ne-eqb v k h)
 
 -- the node that is new, if there is one, is the gate that was looked up
 pub record Put (nm : Norm) (k : ℕ) (d e : Work) : Type 0 where

@@ -12,7 +12,7 @@ use Rattle.laws.specs.Bools.{bit}
 use Rattle.laws.specs.Lists.{All}
 use Rattle.laws.proofs.Choices.{by-bool}
 use Rattle.model.specs.Signal.{fromVar, remapOrder}
-use Rattle.model.specs.Gate.{Gate, Net, isDff, remapGate, noGate, gateAt, size, fitsCode, fitsTable, shaped, allShaped, fanin}
+use Rattle.model.specs.Gate.{Gate, Net, isDff, remapGate, noGate, gateAt, size, shaped, allShaped, fanin, combs}
 use Rattle.model.specs.Normal.{Norm, copied, made}
 use Rattle.model.specs.Network.{sumTo, Work, dedupNode, dedupDffs, dedupCombs}
 use Rattle.shape.proofs.Named.{shaped-at}
@@ -41,6 +41,11 @@ length-total (g ∷ l) = let e = length-total l in omega arith
 -- a combinational gate weighs one
 abbrev pub combOf : Gate → ℕ
 combOf g = bit (not (isDff g))
+
+pub combs-total : (l : List Gate) → combs l ≡ total combOf l
+unfolding combs
+combs-total [] = refl
+combs-total (g ∷ l) = ap (λ n. combOf g + n) (combs-total l)
 
 sum-suc : (f : ℕ → ℕ) (k : ℕ) → sumTo f (suc k) ≡ f 0 + sumTo (λ i. f (suc i)) k
 sum-suc f zero = omega arith
@@ -221,8 +226,8 @@ module _ (norm : Gate → Norm) (N : Net) where
         rw (fanin-total (upTo b k .news))
         (weigh (λ g. length (g .ins)) (λ τ n l g z q. rw (← (asked-length τ n)) (made-few norm law (askedGate τ n) (asked-shaped τ n l) g z q)) b k h)
 
-    pub combs : (b : Bool) (k : ℕ) → k ≤ size N → total combOf (upTo b k .news) ≤ due combOf b k
-    combs = weigh combOf (λ τ n l g z q. rw (asked-kind τ n l g z q) (le-refl _))
+    pub gates : (b : Bool) (k : ℕ) → k ≤ size N → combs (upTo b k .news) ≤ due combOf b k
+    gates b k h = rw (combs-total (upTo b k .news)) (weigh combOf (λ τ n l g z q. rw (asked-kind τ n l g z q) (le-refl _)) b k h)
 
     -- ---- the flip-flops stand first
 
