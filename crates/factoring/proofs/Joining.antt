@@ -2,7 +2,7 @@
 use Prim.Native.Nat.{suc, zero, ℕ, _*_, _+_, _-_, _/_, _<_, _≤_}
 use mathlib.Core.Path.{ap, ap₂, refl, sym, _∙_, _≡_}
 use mathlib.Core.Logic.{_≢_}
-use mathlib.Core.List.{List, [], append-assoc, append-nil, _++_, _∷_}
+use mathlib.Core.List.{List, [], append-assoc, _++_, _∷_}
 use native.Mathlib.Omega.{arith}
 use native.Mathlib.Nat.{add-zero}
 use native.Mathlib.Decide.{ℕ-discrete}
@@ -15,8 +15,8 @@ use Rattle.model.specs.Sharing.{Pair, joinRound, roundLeft, roundPairs}
 use Rattle.model.specs.Signal.{fromVar}
 use Rattle.pairs.specs.Lists.{Laid, areaSize, front, leftAt, listAt, listsOf, pairAt, putLeft, putList, putPair, putSig, setList, sigAt, startAt}
 use Rattle.pairs.specs.States.{Ready, stateOf}
-use Rattle.laws.proofs.Tabs.{getD-tab, length-tab, tab-ext}
-use Rattle.pairs.proofs.Gates.{laid-setList, leftAt-setList-other, listAt-setList, listAt-setList-other, startAt-setList}
+use Rattle.laws.proofs.Tabs.{getD-tab, length-tab, tab-append, tab-ext}
+use Rattle.pairs.proofs.Gates.{getD-lists, laid-setList, leftAt-setList-other, listAt-setList, listAt-setList-other, startAt-setList}
 use Rattle.pairs.proofs.Places.{leftAt-putPair, leftAt-putPair-other, length-putList, length-putPair, putList-append, putPair-putSig, sigAt-putList-after, sigAt-putPair, startAt-putPair, startAt-putPair-other}
 use Rattle.pairs.proofs.Stated.{laid-putPair, lists-putPair, pair≡, state≡}
 use Rattle.pairs.proofs.Taking.{front-suc, length-front}
@@ -281,13 +281,6 @@ module _ (l : List ℕ) (f v m : ℕ) (nodes : v + m / 2 ≤ 512) (place : f + m
 
 -- ---- the state after a round
 
-tab-append : {A : Type 0} (f : ℕ → A) (k h : ℕ) → tab f (k + h) ≡ tab f k ++ tab (λ j. f (k + j)) h
-unfolding tab
-tab-append f k zero = rw (add-zero k) (sym (append-nil (tab f k)))
-tab-append f k (suc h) =
-    let e : k + suc h ≡ suc (k + h) = omega arith in
-    rw e (ap (λ x. x ++ (f (k + h) ∷ [])) (tab-append f k h) ∙ append-assoc (tab f k) (tab (λ j. f (k + j)) h) (f (k + h) ∷ []))
-
 tab-is : (f : ℕ → Pair) (ps : List Pair) (n : ℕ) → length ps ≡ n → ((j : ℕ) → j < n → f j ≡ getD ps j none) → tab f n ≡ ps
 tab-is f ps n e h =
     ext-getD none (tab f n) ps (length-tab f n ∙ sym e) (λ i k. let q : i < n = rw length-tab at k in getD-tab f n i none q ∙ h i q)
@@ -302,10 +295,6 @@ lists-setList l g i m h k r =
       | yes e ↦ rw e (listAt-setList l g i m h k r ∙ sym (getD-set-same (tab (listAt l) g) i m [] (rw length-tab k)))
       | no e ↦ (listAt-setList-other l g i m h k r w q e ∙ sym (getD-set-other (tab (listAt l) g) i w m [] e ∙ getD-tab (listAt l) g w [] q))
     ])
-
-pub getD-lists : (l : List ℕ) (g i : ℕ) → i < g → getD (listsOf l g) i [] ≡ listAt l i
-unfolding listsOf
-getD-lists l g i h = getD-tab (listAt l) g i [] h
 
 list-words : (l : List ℕ) (i v : ℕ) → v + leftAt l i / 2 ≤ 512 → startAt l i + leftAt l i ≤ 2048
     → carried (joinedTo l (startAt l i) v (leftAt l i / 2)) (startAt l i) (leftAt l i) (leftAt l i / 2) ≡ putList (putPairs l v (roundPairs (listAt l i))) (startAt l i) (roundLeft v (listAt l i))

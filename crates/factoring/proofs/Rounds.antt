@@ -1,90 +1,56 @@
 -- Rounds over a gate until one signal is left, and gate after gate.
-use Prim.Native.Nat.{suc, zero, zero-le, ℕ, _+_, _-_, _/_, _<_, _≤_}
+use Prim.Native.Nat.{suc, zero, ℕ, _+_, _-_, _/_, _<_, _≤_}
 use mathlib.Core.Path.{refl, sym, _∙_, _≡_}
 use mathlib.Core.List.{List, [], _∷_}
 use native.Mathlib.Omega.{arith}
 use native.Mathlib.Nat.{le-refl}
 use native.Mathlib.Decide.{decLt}
-use lib.ListN.{getD, length, length-append, length-set}
+use lib.ListN.{getD, length, length-append}
 use lib.Seq.{getD-set-same}
-use borrow.Author.Tests.{le-ltb, lt-ltb}
 use Rattle.factoring.specs.Turned.{Joined, Went}
 use Rattle.model.specs.Sharing.{State, joinGate, joinGates, joinRound, roundLeft, roundPairs, rounds}
 use Rattle.pairs.specs.Lists.{leftAt, listAt, listsOf}
 use Rattle.pairs.specs.States.{Placed, Ready, stateOf}
-use Rattle.factoring.proofs.Joining.{getD-lists}
 use Rattle.factoring.proofs.Turns.{Walked, all-end, all-full, all-grows, all-next, all-start, length-built, placed-here, placed-on, went-full, went-here}
 use Rattle.laws.proofs.Tabs.{length-tab}
-use Rattle.pairs.proofs.Gates.{length-list}
+use Rattle.pairs.proofs.Gates.{getD-lists, length-list}
+use Rattle.shape.proofs.FactoringEnds.{left-lt, lists-round, rounds-go, rounds-stop, rounds-zero}
 use Rattle.factoring.specs.declared.greedy.Built.{Built}
 use Rattle.factoring.specs.declared.greedy.Built.the-variants.{To, Full}
 
--- gate i's list
-unfoldable pub gate : State → ℕ → List ℕ
-gate s i = getD (s .lists) i []
-
-left-le : (b : ℕ) (l : List ℕ) → length (roundLeft b l) ≤ length l
-unfolding roundLeft
-left-le b [] = zero-le
-left-le b (x ∷ []) = le-refl _
-left-le b (x ∷ y ∷ l) = omega (arith, left-le (suc b) l)
-
-left-lt : (b : ℕ) (l : List ℕ) → 1 < length l → length (roundLeft b l) < length l
-unfolding roundLeft
-left-lt b [] h = absurd (omega arith)
-left-lt b (x ∷ []) h = absurd (omega arith)
-left-lt b (x ∷ y ∷ l) h = omega (arith, left-le (suc b) l)
-
-pub lists-round : (s : State) (i : ℕ) → length (joinRound s i .lists) ≡ length (s .lists)
+gate-round : (s : State) (i : ℕ) → i < length (s .lists) → 1 < length (getD (s .lists) i []) → length (getD (joinRound s i .lists) i []) < length (getD (s .lists) i [])
 unfolding joinRound
-lists-round s i = length-set (s .lists) i _
-
-gate-round : (s : State) (i : ℕ) → i < length (s .lists) → 1 < length (gate s i) → length (gate (joinRound s i) i) < length (gate s i)
-unfolding gate joinRound
 gate-round s i h k = rw (getD-set-same (s .lists) i (roundLeft (s .next) (getD (s .lists) i [])) [] h) (left-lt (s .next) (getD (s .lists) i []) k)
 
-rounds-stop : (f : ℕ) (s : State) (i : ℕ) → length (gate s i) ≤ 1 → rounds f s i ≡ s
-unfolding rounds gate
-rounds-stop zero s i h = refl
-rounds-stop (suc f) s i h = rw (le-ltb 1 (length (getD (s .lists) i [])) h)
-
-rounds-go : (f : ℕ) (s : State) (i : ℕ) → 1 < length (gate s i) → rounds (suc f) s i ≡ rounds f (joinRound s i) i
-unfolding rounds gate
-rounds-go f s i h = rw (lt-ltb 1 (length (getD (s .lists) i [])) h)
-
-enough : (f e : ℕ) (s : State) (i : ℕ) → i < length (s .lists) → length (gate s i) ≤ f → f ≤ e → rounds e s i ≡ rounds f s i
+enough : (f e : ℕ) (s : State) (i : ℕ) → i < length (s .lists) → length (getD (s .lists) i []) ≤ f → f ≤ e → rounds e s i ≡ rounds f s i
 enough zero e s i h k d = rounds-stop e s i (omega arith) ∙ sym (rounds-stop 0 s i (omega arith))
 enough (suc f) zero s i h k d = absurd (omega arith)
-enough (suc f) (suc e) s i h k d = elim (decLt 1 (length (gate s i))) [
+enough (suc f) (suc e) s i h k d = elim (decLt 1 (length (getD (s .lists) i []))) [
   | yes q ↦ (rounds-go e s i q ∙ enough f e (joinRound s i) i (rw lists-round h) (omega (arith, gate-round s i h q)) (omega arith) ∙ sym (rounds-go f s i q))
   | no q ↦ (rounds-stop (suc e) s i (omega arith) ∙ sym (rounds-stop (suc f) s i (omega arith)))
 ]
 
-pub gate-end : (s : State) (i : ℕ) → length (gate s i) ≤ 1 → joinGate s i ≡ s
+pub gate-end : (s : State) (i : ℕ) → length (getD (s .lists) i []) ≤ 1 → joinGate s i ≡ s
 unfolding joinGate
 gate-end s i h = rounds-stop _ s i h
 
-pub gate-go : (s : State) (i : ℕ) → i < length (s .lists) → 1 < length (gate s i) → joinGate s i ≡ joinGate (joinRound s i) i
-unfolding joinGate gate joinRound
-gate-go s i h q = go (length (gate s i)) refl
+pub gate-go : (s : State) (i : ℕ) → i < length (s .lists) → 1 < length (getD (s .lists) i []) → joinGate s i ≡ joinGate (joinRound s i) i
+unfolding joinGate joinRound
+gate-go s i h q = go (length (getD (s .lists) i [])) refl
   where
-    go : (t : ℕ) → length (gate s i) ≡ t → rounds (length (gate s i)) s i ≡ rounds (length (gate (joinRound s i) i)) (joinRound s i) i
+    go : (t : ℕ) → length (getD (s .lists) i []) ≡ t → rounds (length (getD (s .lists) i [])) s i ≡ rounds (length (getD (joinRound s i .lists) i [])) (joinRound s i) i
     go zero e = absurd (omega arith)
-    go (suc t) e = rw e (rounds-go t s i q ∙ enough (length (gate (joinRound s i) i)) t (joinRound s i) i (rw lists-round h) (le-refl _) (omega (arith, gate-round s i h q)))
+    go (suc t) e = rw e (rounds-go t s i q ∙ enough (length (getD (joinRound s i .lists) i [])) t (joinRound s i) i (rw lists-round h) (le-refl _) (omega (arith, gate-round s i h q)))
 
 -- ---- the built pairs only grow
 
-built-round : (s : State) (i : ℕ) → length (joinRound s i .built) ≡ length (s .built) + length (roundPairs (gate s i))
-unfolding joinRound gate
+built-round : (s : State) (i : ℕ) → length (joinRound s i .built) ≡ length (s .built) + length (roundPairs (getD (s .lists) i []))
+unfolding joinRound
 built-round s i = length-append (s .built) _
 
-zero-rounds : (s : State) (i : ℕ) → rounds 0 s i ≡ s
-unfolding rounds
-zero-rounds s i = refl
-
 built-rounds : (f : ℕ) (s : State) (i : ℕ) → length (s .built) ≤ length (rounds f s i .built)
-built-rounds zero s i = rw (zero-rounds s i) (le-refl _)
-built-rounds (suc f) s i = elim (decLt 1 (length (gate s i))) [
+built-rounds zero s i = rw (rounds-zero s i) (le-refl _)
+built-rounds (suc f) s i = elim (decLt 1 (length (getD (s .lists) i []))) [
   | yes q ↦ rw (rounds-go f s i q) (omega (arith, built-rounds f (joinRound s i) i, built-round s i))
   | no q ↦ rw (rounds-stop (suc f) s i (omega arith)) (le-refl _)
 ]
@@ -93,10 +59,10 @@ pub built-gate : (s : State) (i : ℕ) → length (s .built) ≤ length (joinGat
 unfolding joinGate
 built-gate s i = built-rounds _ s i
 
--- ---- join_gate: the invariant is joinGate (stateOf area g n t) i ≡ s
+-- ---- join_gate
 
-gate-state : (l : List ℕ) (g n k i : ℕ) → i < g → gate (stateOf l g n k) i ≡ listAt l i
-unfolding gate stateOf
+gate-state : (l : List ℕ) (g n k i : ℕ) → i < g → getD (stateOf l g n k .lists) i [] ≡ listAt l i
+unfolding stateOf
 gate-state l g n k i h = getD-lists l g i h
 
 lists-state : (l : List ℕ) (g n k : ℕ) → length (stateOf l g n k .lists) ≡ g
@@ -121,7 +87,7 @@ pub round-start : (l : List ℕ) (g n k room i : ℕ) → Ready l g n k room →
 round-start l g n k room i h v = record { below = v; same = refl; ready = h; placed = placed-here l g (h .laid); rest = refl }
 
 module _ (l₀ l : List ℕ) (g n k room i t : ℕ) (inv : Rounded l₀ l g n k room i t) (x : ℕ) (ex : x ≡ leftAt l i) where
-  len : length (gate (stateOf l g n t) i) ≡ leftAt l i
+  len : length (getD (stateOf l g n t .lists) i []) ≡ leftAt l i
   len = rw (gate-state l g n t i (inv .below)) (length-list l i)
 
   pub round-end : x ≤ 1 → Went l₀ l g n room (To t) (joinGate (stateOf l₀ g n k) i)
@@ -135,7 +101,7 @@ module _ (l₀ l : List ℕ) (g n k room i t : ℕ) (inv : Rounded l₀ l g n k 
     round-full q =
         let a = built-gate (joinRound (stateOf l g n t) i) i in
         let b = built-round (stateOf l g n t) i in
-        let c = half (gate (stateOf l g n t) i) in
+        let c = half (getD (stateOf l g n t .lists) i []) in
         went-full l₀ l g n room _ (rw (← round-rest) (omega (arith, len, length-built l g n t)))
 
     module _ (fits : x / 2 ≤ room - t) where

@@ -49,6 +49,10 @@ distinct-index (x ∷ l) d (suc i) (suc j) h k e = ap suc (distinct-index l (d .
 
 -- ---- a mapped list
 
+pub length-map : {A B : Type 0} (f : A → B) (l : List A) → length (map f l) ≡ length l
+length-map f [] = refl
+length-map f (x ∷ l) = ap suc (length-map f l)
+
 pub map-cong : {A B : Type 0} (f g : A → B) (l : List A) → ((a : A) → f a ≡ g a) → map f l ≡ map g l
 map-cong f g l h = ap (λ (k : _). map k l) (fun-ext h)
 

@@ -2,8 +2,8 @@
 use Prim.Native.Nat.{ℕ, zero, suc, _+_, _-_, _≤_, _<_}
 use mathlib.Core.Path.{_≡_, refl, sym, ap, _∙_}
 use mathlib.Core.Logic.{⊎-elim}
-use mathlib.Core.List.{List, [], _∷_, _++_, map, map-append}
-use native.Mathlib.Nat.{eq-or-lt-of-le, le-of-suc-le-suc}
+use mathlib.Core.List.{List, [], _∷_, _++_, map, map-append, append-assoc, append-nil}
+use native.Mathlib.Nat.{eq-or-lt-of-le, le-of-suc-le-suc, add-zero}
 use native.Mathlib.Omega.{arith}
 use native.Mathlib.Numerals.{add-one}
 use lib.ListN.{length, getD, take, drop, set, length-append, length-drop, List·getD-append}
@@ -32,6 +32,13 @@ module _ {A : Type 0} where
 
   pub drop-tab : (f : ℕ → A) (n j : ℕ) (d : A) → j < n → drop j (tab f n) ≡ f j ∷ drop (suc j) (tab f n)
   drop-tab f n j d h = drop-cons (tab f n) j d (rw length-tab h) ∙ ap (λ x. x ∷ drop (suc j) (tab f n)) (getD-tab f n j d h)
+
+  pub tab-append : (f : ℕ → A) (k h : ℕ) → tab f (k + h) ≡ tab f k ++ tab (λ j. f (k + j)) h
+  unfolding tab
+  tab-append f k zero = rw (add-zero k) (sym (append-nil (tab f k)))
+  tab-append f k (suc h) =
+      let e : k + suc h ≡ suc (k + h) = omega arith in
+      rw e (ap (λ x. x ++ (f (k + h) ∷ [])) (tab-append f k h) ∙ append-assoc (tab f k) (tab (λ j. f (k + j)) h) (f (k + h) ∷ []))
 
 pub map-tab : {A B : Type 0} (g : A → B) (f : ℕ → A) (n : ℕ) → map g (tab f n) ≡ tab (λ i. g (f i)) n
 unfolding tab

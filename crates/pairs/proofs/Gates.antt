@@ -5,6 +5,7 @@ use mathlib.Core.Logic.{_≢_}
 use mathlib.Core.Bool.{true}
 use mathlib.Core.List.{List, [], map, _++_, _∷_}
 use native.Mathlib.Omega.{arith}
+use native.Mathlib.Nat.{add-assoc}
 use native.Mathlib.Numerals.{add-one}
 use native.Mathlib.Decide.{decLt, ℕ-discrete}
 use lib.ListN.{getD, length, length-append}
@@ -15,7 +16,7 @@ use Rattle.pairs.specs.Lists.{Laid, front, leftAt, listAt, listsOf, setL
 use Rattle.pairs.specs.Words.{replacedAll, replacedIn}
 use Rattle.laws.proofs.Bools.{and-left}
 use Rattle.laws.proofs.Choices.{by-bool}
-use Rattle.laws.proofs.Tabs.{getD-tab, length-tab, map-tab, tab-ext}
+use Rattle.laws.proofs.Tabs.{getD-tab, length-tab, map-tab, tab-append, tab-ext}
 use Rattle.pairs.proofs.Places.{leftAt-putLeft, leftAt-putLeft-other, leftAt-putList, length-putLeft, length-putList, sigAt-putLeft, sigAt-putList, sigAt-putList-after, sigAt-putList-before, startAt-putLeft, startAt-putList}
 use Rattle.pairs.proofs.Taking.{length-front}
 use Rattle.shape.proofs.FactoringLists.{takeOut-lt}
@@ -29,6 +30,18 @@ unfolding front
 front-is l f m h =
     ext-getD 0 (tab (λ k. sigAt l (f + k)) (length m)) m (length-tab _ (length m))
     (λ i k. let q : i < length m = rw length-tab at k in getD-tab _ (length m) i 0 q ∙ h i q)
+
+pub front-append : (l : List ℕ) (f n m : ℕ) → front l f (n + m) ≡ front l f n ++ front l (f + n) m
+unfolding front
+front-append l f n m = tab-append (λ k. sigAt l (f + k)) n m ∙ ap (_++_ (tab (λ k. sigAt l (f + k)) n)) (tab-ext _ _ m (λ j h. ap (sigAt l) (sym (add-assoc f n j))))
+
+pub getD-lists : (l : List ℕ) (g i : ℕ) → i < g → getD (listsOf l g) i [] ≡ listAt l i
+unfolding listsOf
+getD-lists l g i h = getD-tab (listAt l) g i [] h
+
+pub length-lists : (l : List ℕ) (g : ℕ) → length (listsOf l g) ≡ g
+unfolding listsOf
+length-lists l g = length-tab (listAt l) g
 
 module _ (l : List ℕ) (g i : ℕ) (m : List ℕ) (h : Laid l g) (k : i < g) (r : length m ≤ leftAt l i) where
   room : startAt l i + length m ≤ 2048

@@ -13,7 +13,7 @@ use borrow.Author.Tests.{le-ltb, lt-ltb}
 use Rattle.laws.specs.Lists.{All}
 use Rattle.model.specs.Sharing.{State, allPairs, consumeBinaryGates, exclusiveSignals, factoring, giveBack, holds, joinGate, joinGates, joinRound, once, replaceIn, replacePair, retain, roundLeft, rounds, sharedSignals}
 use Rattle.laws.proofs.Choices.{by-bool}
-use Rattle.laws.proofs.Lists.{all-at, all-of}
+use Rattle.laws.proofs.Lists.{all-at, all-of, length-map}
 use Rattle.shape.proofs.FactoringFuel.{in-le}
 use Rattle.shape.proofs.FactoringSteps.{allPairs-keeps, consume-keeps, joins-keep}
 
@@ -64,10 +64,6 @@ pub split-length : (p : ℕ → Bool) (l : List ℕ) → length (retain (λ x. n
 unfolding retain
 split-length p [] = refl
 split-length p (x ∷ l) = by-bool (p x) (λ e. rw e (omega (arith, split-length p l))) (λ e. rw e (omega (arith, split-length p l)))
-
-pub length-map : {A B : Type 0} (f : A → B) (l : List A) → length (map f l) ≡ length l
-length-map f [] = refl
-length-map f (x ∷ l) = ap suc (length-map f l)
 
 pub getD-given : (gs os : List (List ℕ)) (i : ℕ) → i < length gs → length os ≡ length gs → getD (giveBack gs os) i [] ≡ getD gs i [] ++ getD os i []
 unfolding giveBack
@@ -135,7 +131,7 @@ module _ (s : State) (i : ℕ) where
   unfolding joinRound
   round-other j d = getD-set-other (s .lists) i j _ [] d
 
-rounds-zero : (s : State) (i : ℕ) → rounds 0 s i ≡ s
+pub rounds-zero : (s : State) (i : ℕ) → rounds 0 s i ≡ s
 unfolding rounds
 rounds-zero s i = refl
 

@@ -10,14 +10,14 @@ use lib.Dec.{ltb}
 use borrow.Author.Tests.{le-ltb, lt-ltb, ltb-false, ltb-true}
 use Rattle.kinds.specs.Kinds.{kindOf}
 use Rattle.laws.specs.Lists.{All}
-use Rattle.model.specs.Gate.{Gate, Net, Valid, allNamed, allShaped, fanin, fitsCode, fitsKind, fitsTable, gatesNamed, shaped, size, wired}
+use Rattle.model.specs.Gate.{Gate, Net, Valid, allNamed, allShaped, fanin, fitsCode, fitsTable, gatesNamed, shaped, size, wired}
 use Rattle.model.specs.Normal.{gateOf}
 use Rattle.model.specs.Sharing.{Pair, State, factoring, grown, inside, pairGate, pairPlaces, passRefusal, replaced, taken, takes}
 use Rattle.shape.specs.Room.{bufInputs, roomOf}
 use Rattle.laws.proofs.Bools.{and-both, and-left, and-right}
 use Rattle.laws.proofs.Choices.{by-bool}
-use Rattle.laws.proofs.Lists.{all-append, all-map}
-use Rattle.shape.proofs.FactoringEnds.{One, Some, length-map, lists-factoring, one-left}
+use Rattle.laws.proofs.Lists.{all-append, all-map, length-map}
+use Rattle.shape.proofs.FactoringEnds.{One, Some, lists-factoring, one-left}
 use Rattle.shape.proofs.FactoringSound.{Known, Rising, Sound, factoring-sound}
 use Rattle.shape.proofs.Named.{Here, all-here, here-all, here-more, here-var}
 use Rattle.kinds.specs.declared.Family.the-variants.{And, Xor}

@@ -17,12 +17,12 @@ use Rattle.pairs.specs.Lists.{areaSize, leftAt, listAt, listsOf, pairAt, putLef
 use Rattle.tables.specs.Layout.{gateAt, insAt}
 use Rattle.uses.specs.Loading.{Givable, GivenBack, Gives, Picked, Picks, Says, givenIn, listsIn, slot}
 use Rattle.uses.specs.Uses.{isOnce, wanted}
-use Rattle.laws.proofs.Lists.{getD-map-in}
-use Rattle.pairs.proofs.Gates.{front-ext, front-is, length-list}
+use Rattle.laws.proofs.Lists.{getD-map-in, length-map}
+use Rattle.pairs.proofs.Gates.{front-append, front-ext, front-is, getD-lists, length-list, length-lists}
 use Rattle.pairs.proofs.Places.{leftAt-putLeft, leftAt-putLeft-other, leftAt-putList, length-putLeft, length-putList, sigAt-putLeft, sigAt-putList, sigAt-putList-before, startAt-putLeft, startAt-putList}
 use Rattle.pairs.proofs.Stated.{pair≡}
-use Rattle.shape.proofs.FactoringEnds.{getD-given, length-given, length-map, split-length}
-use Rattle.uses.proofs.Loads.{Written, front-append, getD-lists, length-lists, lists-are, once-left, sharedOf, written-other, written-says}
+use Rattle.shape.proofs.FactoringEnds.{getD-given, length-given, split-length}
+use Rattle.uses.proofs.Loads.{Written, lists-are, once-left, sharedOf, written-other, written-says}
 use Rattle.uses.proofs.Picking.{once-putList, retain-ext}
 use Rattle.uses.proofs.Slots.{list-here, list-there, lists-few, lists-next, lists-none, lists-skip, slot-apart, slot-room}
 use Rattle.uses.proofs.Walks.{ins-named, source-few, source-more}

@@ -1,11 +1,10 @@
 -- Laws of separate_exclusive_signals and give_back: what putting signals behind one list does to all lists.
-use Prim.Native.Nat.{suc, zero, ℕ, _+_, _<_, _≤_}
+use Prim.Native.Nat.{ℕ, _+_, _<_, _≤_}
 use mathlib.Core.Path.{ap, refl, sym, _∙_, _≡_}
 use mathlib.Core.Logic.{inl, inr, _≢_, _⊎_}
 use mathlib.Core.Bool.{Bool, false, not, true}
-use mathlib.Core.List.{List, [], append-assoc, append-nil, map, _++_, _∷_}
+use mathlib.Core.List.{List, [], map}
 use native.Mathlib.Omega.{arith}
-use native.Mathlib.Nat.{add-assoc, add-zero}
 use native.Mathlib.Numerals.{add-one}
 use native.Mathlib.Decide.{ℕ-discrete}
 use mir.Syntax.{w32, w64}
@@ -15,40 +14,20 @@ use lib.Seq.{ext-getD}
 use borrow.Author.Tests.{not-false, not-true}
 use Rattle.laws.specs.Lists.{tab}
 use Rattle.model.specs.Sharing.{once, retain, sharedSignals, takes}
-use Rattle.pairs.specs.Lists.{areaSize, front, leftAt, listAt, listsOf, putLeft, putList, putStart, sigAt, startAt}
+use Rattle.pairs.specs.Lists.{areaSize, leftAt, listAt, listsOf, putLeft, putList, putStart, sigAt, startAt}
 use Rattle.tables.specs.Layout.{countAt, gateAt, insAt}
 use Rattle.uses.specs.Loading.{Loadable, Loads, Picked, Picks, Says, Separated, Source, listsIn, loadedIn, slot}
 use Rattle.uses.specs.Uses.{Named, isOnce, useAt, useIx, wanted}
-use Rattle.laws.proofs.Lists.{getD-map-in}
-use Rattle.laws.proofs.Tabs.{getD-tab, length-tab, tab-ext}
+use Rattle.laws.proofs.Lists.{getD-map-in, length-map}
+use Rattle.laws.proofs.Tabs.{getD-tab, length-tab}
 use Rattle.pairs.proofs.Gates.{front-ext, front-is, length-list}
 use Rattle.pairs.proofs.Places.{leftAt-putLeft, leftAt-putLeft-other, leftAt-putList, leftAt-putStart, length-putLeft, length-putList, length-putStart, sigAt-putLeft, sigAt-putList, sigAt-putList-after, sigAt-putList-before, sigAt-putStart, startAt-putLeft, startAt-putList, startAt-putStart, startAt-putStart-other, usedAt-putLeft, usedAt-putStart}
-use Rattle.shape.proofs.FactoringEnds.{length-map}
 use Rattle.tables.proofs.Holding.{length-insAt}
 use Rattle.uses.proofs.Picking.{once-putList, retain-ext, retain-le}
 use Rattle.uses.proofs.Slots.{list-here, list-there, lists-few, lists-next, lists-none, lists-skip, slot-apart, slot-next, slot-none, slot-room}
 use Rattle.uses.proofs.Tallies.{ix-small}
 use Rattle.uses.proofs.Walks.{ins-named, source-few, source-more}
 use Rattle.kinds.specs.declared.Family.{Family}
-
-tab-append : {A : Type 0} (f : ℕ → A) (k h : ℕ) → tab f (k + h) ≡ tab f k ++ tab (λ j. f (k + j)) h
-unfolding tab
-tab-append f k zero = rw (add-zero k) (sym (append-nil (tab f k)))
-tab-append f k (suc h) =
-    let e : k + suc h ≡ suc (k + h) = omega arith in
-    rw e (ap (λ x. x ++ (f (k + h) ∷ [])) (tab-append f k h) ∙ append-assoc (tab f k) (tab (λ j. f (k + j)) h) (f (k + h) ∷ []))
-
-pub front-append : (l : List ℕ) (f n m : ℕ) → front l f (n + m) ≡ front l f n ++ front l (f + n) m
-unfolding front
-front-append l f n m = tab-append (λ k. sigAt l (f + k)) n m ∙ ap (_++_ (tab (λ k. sigAt l (f + k)) n)) (tab-ext _ _ m (λ j h. ap (sigAt l) (sym (add-assoc f n j))))
-
-pub getD-lists : (l : List ℕ) (g i : ℕ) → i < g → getD (listsOf l g) i [] ≡ listAt l i
-unfolding listsOf
-getD-lists l g i h = getD-tab (listAt l) g i [] h
-
-pub length-lists : (l : List ℕ) (g : ℕ) → length (listsOf l g) ≡ g
-unfolding listsOf
-length-lists l g = length-tab (listAt l) g
 
 pub once-left : (l : List ℕ) (i n x : ℕ) → Named x → isOnce (putLeft l i n) x ≡ isOnce l x
 unfolding isOnce useAt

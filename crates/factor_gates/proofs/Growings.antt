@@ -1,0 +1,264 @@
+-- Laws of writing the grown network.
+use Rattle.kinds.specs.declared.Family.{Family}
+use Rattle.kinds.specs.declared.Kind.{Kind}
+use Rattle.kinds.specs.declared.Kind.the-variants.{Buf}
+
+-- ---- one gate
+
+pub record Copying (from l₀ l : List ℕ) (f at n j : ℕ) : Type 0 where
+  pub upto : j ≤ n
+  pub same : length l ≡ length l₀
+  pub words : l ≡ putInputs l₀ at (inputsFrom from f) j
+
+pub copy-start : (from l : List ℕ) (f at n : ℕ) → Copying from l l f at n 0
+unfolding putInputs
+copy-start from l f at n = record { upto = omega arith; same = refl; words = refl }
+
+module _ (from l₀ l : List ℕ) (f at n j : ℕ) (inv : Copying from l₀ l f at n j) where
+  module _ (C : Copies from l₀ f at n) (h : j < n) where
+    pub copy-read : f + j < 2048
+    copy-read = omega (arith, C .ends)
+
+    pub copy-read-fits : Fits w64 (f + j)
+    copy-read-fits = record { fits = omega (arith, C .ends) }
+
+    pub copy-write : at + j < 2048
+    copy-write = omega (arith, C .room)
+
+    pub copy-write-fits : Fits w64 (at + j)
+    copy-write-fits = record { fits = omega (arith, C .room) }
+
+    pub copy-long : netSize ≤ length l
+    copy-long = omega (arith, C .long, inv .same)
+
+  pub copy-step : (s : ℕ) (m : List ℕ) → j < n → s ≡ inputAt from (f + j) → m ≡ putInput l (at + j) s → length m ≡ length l → Copying from l₀ m f at n (j + 1)
+  unfolding inputsFrom
+  copy-step s m h es em len = record {
+    upto = omega arith;
+    same = len ∙ inv .same;
+    words = em ∙ rw (add-one j, inv .words) (putInputs-next l₀ at (inputsFrom from f) j s es);
+  }
+
+  pub copy-end : n ≤ j → l ≡ putInputs l₀ at (inputsFrom from f) n
+  copy-end h = let a = inv .upto in let e : j ≡ n = omega arith in inv .words ∙ ap (putInputs l₀ at (inputsFrom from f)) e
+
+pub ruleset copies = (copy-start, copy-read, copy-read-fits, copy-write, copy-write-fits, copy-long, copy-step, copy-end)
+
+-- copy_gate
+module _ (from l : List ℕ) (v at : ℕ) (P : Putting from l v at) where
+  pub gate-copies : (n f : ℕ) → n ≡ countAt from v → f ≡ firstAt from v → Copies from l f at n
+  gate-copies n f en ef = record { source = P .node .long; long = P .long; ends = omega (arith, P .node .ends); room = omega (arith, P .room) }
+
+  pub gate-at : Fits w32 at
+  gate-at = record { fits = omega (arith, P .room) }
+
+  pub gate-count : (n : ℕ) → n ≡ countAt from v → Fits w32 n
+  gate-count n en = record { fits = omega (arith, P .room) }
+
+  pub gate-done : (n f k lo hi : ℕ) (m o q : List ℕ) → n ≡ countAt from v → f ≡ firstAt from v → k ≡ kindAt from v → lo ≡ lowAt from v → hi ≡ highAt from v
+      → m ≡ putInputs l at (inputsFrom from f) n → o ≡ putGate m v k at n → q ≡ putTable o v lo hi → q ≡ putCopy from l v at
+  unfolding putCopy putNode
+  gate-done n f k lo hi m o q en ef ek el eh em eo eq = eq ∙ rw (eo, em, en, ef, ek, el, eh)
+
+pub ruleset gateCopies = (gate-copies, gate-at, gate-count, gate-done)
+
+-- put_buf, put_two
+module _ (l : List ℕ) (v at : ℕ) where
+  pub buf-done : (s k : ℕ) (m o q : List ℕ) → m ≡ putInput l at s → k ≡ 12 → o ≡ putGate m v k at 1 → q ≡ putTable o v 0 0 → q ≡ putNode l v 12 at (either s s) 1 0 0
+  unfolding putNode putInputs either
+  buf-done s k m o q em ek eo eq = eq ∙ rw (eo, em, ek, add-zero)
+
+  pub two-done : (a b k : ℕ) (f : Family) (K : Kind) (m n o q : List ℕ) → m ≡ putInput l at a → n ≡ putInput m (at + 1) b → K ≡ twoOf f → k ≡ codeOf K → o ≡ putGate n v k at 2 → q ≡ putTable o v 0 0
+      → q ≡ putNode l v (codeOf (twoOf f)) at (either a b) 2 0 0
+  unfolding putNode putInputs either
+  two-done a b k f K m n o q em en eK ek eo eq = eq ∙ rw (eo, en, em, ek, eK, add-zero)
+
+  module _ (n : ℕ) (P : Puts l v at n) where
+    pub puts-at : 0 < n → at < 2048
+    puts-at h = omega (arith, P .room)
+
+    pub puts-next : 1 < n → at + 1 < 2048
+    puts-next h = omega (arith, P .room)
+
+    pub puts-fits : Fits w32 at
+    puts-fits = record { fits = omega (arith, P .room) }
+
+pub ruleset puts = (buf-done, two-done, puts-at, puts-next, puts-fits)
+
+-- the gates that these are
+pub is-copy : (from : List ℕ) (v : ℕ) → record { kind = kindAt from v; ins = tab (inputsFrom from (firstAt from v)) (countAt from v); table = lowAt from v + 2 ^ 32 * highAt from v } ≡ gateAt from v
+unfolding gateAt insAt inputsFrom
+is-copy from v = refl
+
+pub is-buf : (s : ℕ) → _≡_ {A = Gate} (record { kind = 12; ins = tab (either s s) 1; table = 0 + 2 ^ 32 * 0 }) (gateOf Buf (s ∷ []))
+unfolding tab either
+is-buf s = gate≡ refl refl refl
+
+pub is-two : (f : Family) (a b : ℕ) → _≡_ {A = Gate} (record { kind = codeOf (twoOf f); ins = tab (either a b) 2; table = 0 + 2 ^ 32 * 0 }) (pairGate f (record { fst = a; snd = b }))
+unfolding tab either
+is-two f a b = gate≡ refl refl refl
+
+-- ---- one more gate is replaced
+
+replaced-none : (f : Family) (gs : List Gate) → replaced f gs [] ≡ gs
+unfolding replaced
+replaced-none f [] = refl
+replaced-none f (g ∷ gs) = refl
+
+replaced-other : (f : Family) (gs : List Gate) (ls : List (List ℕ)) (g : Gate) → length ls ≡ length (taken f gs) → takes f g ≡ false → replaced f (gs ++ (g ∷ [])) ls ≡ replaced f gs ls ++ (g ∷ [])
+unfolding replaced taken
+replaced-other f gs [] g e t = rw (replaced-none f (gs ++ (g ∷ [])), replaced-none f gs)
+replaced-other f [] (l ∷ ls) g e t = absurd (omega arith)
+replaced-other f (h ∷ gs) (l ∷ ls) g e t = by-bool (takes f h)
+    (λ q. let z : suc (length ls) ≡ suc (length (taken f gs)) = rw q at e in rw q (ap (_∷_ (gateOf Buf l)) (replaced-other f gs ls g (omega arith) t)))
+    (λ q. let z : suc (length ls) ≡ length (taken f gs) = rw q at e in rw q (ap (_∷_ h) (replaced-other f gs (l ∷ ls) g z t)))
+
+replaced-taken : (f : Family) (gs : List Gate) (ls : List (List ℕ)) (g : Gate) (l : List ℕ) → length ls ≡ length (taken f gs) → takes f g ≡ true
+    → replaced f (gs ++ (g ∷ [])) (ls ++ (l ∷ [])) ≡ replaced f gs ls ++ (gateOf Buf l ∷ [])
+unfolding replaced taken
+replaced-taken f [] [] g l e t = rw t
+replaced-taken f [] (k ∷ ls) g l e t = absurd (omega arith)
+replaced-taken f (h ∷ gs) [] g l e t = by-bool (takes f h)
+    (λ q. let z : 0 ≡ suc (length (taken f gs)) = rw q at e in absurd (omega arith))
+    (λ q. let z : 0 ≡ length (taken f gs) = rw q at e in rw q (ap (_∷_ h) (replaced-taken f gs [] g l z t ∙ rw (replaced-none f gs))))
+replaced-taken f (h ∷ gs) (k ∷ ls) g l e t = by-bool (takes f h)
+    (λ q. let z : suc (length ls) ≡ suc (length (taken f gs)) = rw q at e in rw q (ap (_∷_ (gateOf Buf k)) (replaced-taken f gs ls g l (omega arith) t)))
+    (λ q. let z : suc (length ls) ≡ length (taken f gs) = rw q at e in rw q (ap (_∷_ h) (replaced-taken f gs (k ∷ ls) g l z t)))
+
+-- ---- a gate put in front leaves the lists
+
+lists-putNode : (l : List ℕ) (v k at : ℕ) (f : ℕ → ℕ) (n lo hi : ℕ) → v < 512 → at + n ≤ 2048 → SameLists l (putNode l v k at f n lo hi)
+lists-putNode l v k at f n lo hi h r = record {
+  long = length-putNode l v k at f n lo hi;
+  sigs = λ w q. sigAt-putNode l v k at f n lo hi h r w;
+  starts = startAt-putNode l v k at f n lo hi h r;
+  lefts = leftAt-putNode l v k at f n lo hi h r;
+}
+
+-- ---- put_nodes
+
+pub record Writing (f : Family) (from l₀ l : List ℕ) (n i at v : ℕ) : Type 0 where
+  pub upto : v ≤ n
+  pub same : SameLists l₀ l
+  pub gates : i ≡ length (listsIn f from v)
+  pub count : at ≡ bufInputs f (nodesOf from v)
+  pub packed : Packed l v at
+  pub nodes : nodesOf l v ≡ replaced f (nodesOf from v) (listsOf l₀ i)
+
+pub nodes-start : (f : Family) (from l : List ℕ) (n : ℕ) → Begun f from l n → Writing f from l l n 0 0 0
+unfolding replaced listsOf tab
+nodes-start f from l n B = record {
+  upto = omega arith;
+  same = lists-same l;
+  gates = rw (lists-none f from);
+  count = sym (buf-none f from);
+  packed = packed-none l (omega (arith, B .laid .long));
+  nodes = rw (nodesOf-none l, nodesOf-none from);
+}
+
+lists-suc : (l : List ℕ) (i : ℕ) → listsOf l (suc i) ≡ listsOf l i ++ (listAt l i ∷ [])
+unfolding listsOf tab
+lists-suc l i = refl
+
+list-one : (l : List ℕ) (i : ℕ) → leftAt l i ≡ 1 → listAt l i ≡ sigAt l (startAt l i) ∷ []
+unfolding listAt front tab
+list-one l i e = rw (e, add-zero)
+
+module _ (f : Family) (from l₀ l : List ℕ) (n i at v : ℕ) (inv : Writing f from l₀ l n i at v) (B : Begun f from l₀ n) where
+  module _ (h : v < n) where
+    pub nodes-few : v < 512
+    nodes-few = source-few from n v (B .source) h
+
+    pub nodes-more : Fits w64 (v + 1)
+    nodes-more = source-more from n v (B .source) h
+
+    pub nodes-long : areaSize ≤ length l
+    nodes-long = omega (arith, B .laid .long, inv .same .long)
+
+    module _ (b : Bool) (eb : b ≡ takes f (gateAt from v)) where
+      module _ (q : b ≡ true) where
+        t : takes f (gateAt from v) ≡ true
+        t = sym eb ∙ q
+
+        there : i < length (listsIn f from n)
+        there = rw (inv .gates) (list-there f from v n h t)
+
+        pub nodes-i : i < 512
+        nodes-i = omega (arith, there, B .laid .few)
+
+        pub nodes-i-more : Fits w64 (i + 1)
+        nodes-i-more = record { fits = omega (arith, there, B .laid .few) }
+
+        room : at + 1 ≤ 2048
+        room = omega (arith, inv .count, buf-taken f from v t, buf-small f from n (suc v) (B .source) h)
+
+        pub nodes-at-more : Fits w64 (at + 1)
+        nodes-at-more = record { fits = omega (arith, room) }
+
+        pub nodes-buf : Puts l v at 1
+        nodes-buf = record { long = inv .packed .long; few = nodes-few; room = room }
+
+        module _ (w s : ℕ) (ew : w ≡ startAt l i) where
+          pub nodes-sig : w < 2048
+          nodes-sig = omega (arith, inv .same .starts i, B .laid .ends i there, B .ones i there)
+
+          pub nodes-taken : (m : List ℕ) → s ≡ sigAt l w → m ≡ putNode l v 12 at (either s s) 1 0 0 → length m ≡ length l → Writing f from l₀ m n (i + 1) (at + 1) (v + 1)
+          nodes-taken m es em len =
+              let sl : s ∷ [] ≡ listAt l₀ i =
+                  ap (λ x. x ∷ []) (es ∙ ap (sigAt l) (ew ∙ inv .same .starts i) ∙ inv .same .sigs (startAt l₀ i) (omega (arith, B .laid .ends i there, B .ones i there)))
+                  ∙ sym (list-one l₀ i (B .ones i there)) in
+              let ns = nodesOf-putNode l v at (inv .packed) 12 (either s s) 1 0 0 nodes-few room in
+              rw (em, add-one v, add-one i, add-one at)
+              (record {
+                upto = h;
+                same = lists-on l₀ l (putNode l v 12 at (either s s) 1 0 0) (inv .same) (lists-putNode l v 12 at (either s s) 1 0 0 nodes-few room);
+                gates = rw (lists-next f from v t, length-append) (omega (arith, inv .gates));
+                count = omega (arith, inv .count, buf-taken f from v t);
+                packed = let e : at + 1 ≡ suc at = add-one at in rw (← e) (packed-putNode l v at (inv .packed) 12 (either s s) 1 0 0 nodes-few room);
+                nodes =
+                    ns
+                    ∙ rw (inv .nodes, is-buf s, sl, nodesOf-next from v, lists-suc l₀ i)
+                    (sym (replaced-taken f (nodesOf from v) (listsOf l₀ i) (gateAt from v) (listAt l₀ i) (length-lists l₀ i ∙ inv .gates ∙ lists-count f from v) t));
+              })
+
+      module _ (q : b ≡ false) where
+        u : takes f (gateAt from v) ≡ false
+        u = sym eb ∙ q
+
+        wide : at + countAt from v ≤ 2048
+        wide = omega (arith, inv .count, buf-other f from v u, buf-small f from n (suc v) (B .source) h)
+
+        pub nodes-copy : Putting from l v at
+        nodes-copy = record { node = B .source .nodes v h; long = inv .packed .long; room = wide }
+
+        module _ (c : ℕ) (ec : c ≡ countAt from v) where
+          pub nodes-fits : Fits w64 (at + c)
+          nodes-fits = record { fits = omega (arith, wide) }
+
+          pub nodes-other : (m : List ℕ) → m ≡ putCopy from l v at → length m ≡ length l → Writing f from l₀ m n i (at + c) (v + 1)
+          unfolding putCopy
+          nodes-other m em len =
+              let k = kindAt from v in
+              let g = inputsFrom from (firstAt from v) in
+              let d = countAt from v in
+              let lo = lowAt from v in
+              let hi = highAt from v in
+              rw (em, add-one v, ec)
+              (record {
+                upto = h;
+                same = lists-on l₀ l (putNode l v k at g d lo hi) (inv .same) (lists-putNode l v k at g d lo hi nodes-few wide);
+                gates = rw (lists-skip f from v u) (inv .gates);
+                count = omega (arith, inv .count, buf-other f from v u);
+                packed = packed-putNode l v at (inv .packed) k g d lo hi nodes-few wide;
+                nodes =
+                    nodesOf-putNode l v at (inv .packed) k g d lo hi nodes-few wide
+                    ∙ rw (inv .nodes, is-copy from v, nodesOf-next from v)
+                    (sym (replaced-other f (nodesOf from v) (listsOf l₀ i) (gateAt from v) (length-lists l₀ i ∙ inv .gates ∙ lists-count f from v) u));
+              })
+
+  pub nodes-end : n ≤ v → Nodes f from l₀ l n at
+  nodes-end h =
+      let a = inv .upto in
+      let e : v ≡ n = omega arith in
+      let g : i ≡ length (listsIn f from n) = inv .gates ∙ ap (λ k. length (listsIn f from k)) e in
+      rw (← e, ← g) (record { count = inv .count; same = inv .same; packed = inv .packed; nodes = inv .nodes })

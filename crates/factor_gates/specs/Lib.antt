@@ -1,0 +1,3 @@
+-- What the contracts of `factor_gates` cite.
+pub mod Growing
+pub mod Passing
