@@ -1,4 +1,34 @@
 -- Laws of writing the grown network.
+use Prim.Native.Nat.{suc, ℕ, _*_, _+_, _<_, _^_, _≤_}
+use mathlib.Core.Path.{ap, ap₂, refl, subst, sym, _∙_, _≡_}
+use mathlib.Core.Bool.{Bool, false, true}
+use mathlib.Core.List.{List, [], _++_, _∷_}
+use native.Mathlib.Omega.{arith}
+use native.Mathlib.Nat.{add-zero}
+use native.Mathlib.Numerals.{add-one}
+use mir.Syntax.{w32, w64}
+use mir.Val.{Fits}
+use lib.ListN.{length, length-append}
+use Rattle.factor_gates.specs.Growing.{Begun, Copies, Nodes, Puts, Putting, either, inputsFrom, putCopy}
+use Rattle.kinds.specs.Kinds.{codeOf}
+use Rattle.laws.specs.Lists.{tab}
+use Rattle.model.specs.Gate.{Gate}
+use Rattle.model.specs.Normal.{gateOf}
+use Rattle.model.specs.Sharing.{pairGate, replaced, taken, takes, twoOf}
+use Rattle.pairs.specs.Lists.{areaSize, front, leftAt, listAt, listsOf, sigAt, startAt}
+use Rattle.shape.specs.Room.{bufInputs}
+use Rattle.tables.specs.Building.{Packed, putInputs, putNode}
+use Rattle.tables.specs.Layout.{countAt, firstAt, gateAt, highAt, inputAt, insAt, kindAt, lowAt, netSize, nodesOf, putGate, putInput, putTable}
+use Rattle.uses.specs.Loading.{SameLists, listsIn}
+use Rattle.factor_gates.proofs.Rooms.{buf-none, buf-other, buf-small, buf-taken}
+use Rattle.laws.proofs.Choices.{by-bool}
+use Rattle.pairs.proofs.Gates.{length-lists}
+use Rattle.pairs.proofs.Places.{leftAt-putNode, sigAt-putNode, startAt-putNode}
+use Rattle.tables.proofs.Building.{length-putNode, nodesOf-next, nodesOf-none, nodesOf-putNode, packed-none, packed-putNode, putInputs-next}
+use Rattle.tables.proofs.Gates.{gate≡}
+use Rattle.uses.proofs.Slots.{list-there, lists-next, lists-none, lists-skip}
+use Rattle.uses.proofs.Tallies.{lists-on, lists-same}
+use Rattle.uses.proofs.Walks.{source-few, source-more}
 use Rattle.kinds.specs.declared.Family.{Family}
 use Rattle.kinds.specs.declared.Kind.{Kind}
 use Rattle.kinds.specs.declared.Kind.the-variants.{Buf}
@@ -127,7 +157,7 @@ replaced-taken f (h ∷ gs) (k ∷ ls) g l e t = by-bool (takes f h)
 
 -- ---- a gate put in front leaves the lists
 
-lists-putNode : (l : List ℕ) (v k at : ℕ) (f : ℕ → ℕ) (n lo hi : ℕ) → v < 512 → at + n ≤ 2048 → SameLists l (putNode l v k at f n lo hi)
+pub lists-putNode : (l : List ℕ) (v k at : ℕ) (f : ℕ → ℕ) (n lo hi : ℕ) → v < 512 → at + n ≤ 2048 → SameLists l (putNode l v k at f n lo hi)
 lists-putNode l v k at f n lo hi h r = record {
   long = length-putNode l v k at f n lo hi;
   sigs = λ w q. sigAt-putNode l v k at f n lo hi h r w;
@@ -164,10 +194,15 @@ list-one : (l : List ℕ) (i : ℕ) → leftAt l i ≡ 1 → listAt l i ≡ sigA
 unfolding listAt front tab
 list-one l i e = rw (e, add-zero)
 
+-- the lists of the first v nodes, as taken
+lists-count : (f : Family) (from : List ℕ) (v : ℕ) → length (listsIn f from v) ≡ length (taken f (nodesOf from v))
+unfolding listsIn
+lists-count f from v = refl
+
 module _ (f : Family) (from l₀ l : List ℕ) (n i at v : ℕ) (inv : Writing f from l₀ l n i at v) (B : Begun f from l₀ n) where
   module _ (h : v < n) where
-    pub nodes-few : v < 512
-    nodes-few = source-few from n v (B .source) h
+    pub writes-few : v < 512
+    writes-few = source-few from n v (B .source) h
 
     pub nodes-more : Fits w64 (v + 1)
     nodes-more = source-more from n v (B .source) h
@@ -196,7 +231,7 @@ module _ (f : Family) (from l₀ l : List ℕ) (n i at v : ℕ) (inv : Writing f
         nodes-at-more = record { fits = omega (arith, room) }
 
         pub nodes-buf : Puts l v at 1
-        nodes-buf = record { long = inv .packed .long; few = nodes-few; room = room }
+        nodes-buf = record { long = inv .packed .long; few = writes-few; room = room }
 
         module _ (w s : ℕ) (ew : w ≡ startAt l i) where
           pub nodes-sig : w < 2048
@@ -205,16 +240,16 @@ module _ (f : Family) (from l₀ l : List ℕ) (n i at v : ℕ) (inv : Writing f
           pub nodes-taken : (m : List ℕ) → s ≡ sigAt l w → m ≡ putNode l v 12 at (either s s) 1 0 0 → length m ≡ length l → Writing f from l₀ m n (i + 1) (at + 1) (v + 1)
           nodes-taken m es em len =
               let sl : s ∷ [] ≡ listAt l₀ i =
-                  ap (λ x. x ∷ []) (es ∙ ap (sigAt l) (ew ∙ inv .same .starts i) ∙ inv .same .sigs (startAt l₀ i) (omega (arith, B .laid .ends i there, B .ones i there)))
-                  ∙ sym (list-one l₀ i (B .ones i there)) in
-              let ns = nodesOf-putNode l v at (inv .packed) 12 (either s s) 1 0 0 nodes-few room in
+              ap (λ x. x ∷ []) (es ∙ ap (sigAt l) (ew ∙ inv .same .starts i) ∙ inv .same .sigs (startAt l₀ i) (omega (arith, B .laid .ends i there, B .ones i there)))
+              ∙ sym (list-one l₀ i (B .ones i there)) in
+              let ns = nodesOf-putNode l v at (inv .packed) 12 (either s s) 1 0 0 writes-few room in
               rw (em, add-one v, add-one i, add-one at)
               (record {
                 upto = h;
-                same = lists-on l₀ l (putNode l v 12 at (either s s) 1 0 0) (inv .same) (lists-putNode l v 12 at (either s s) 1 0 0 nodes-few room);
+                same = lists-on l₀ l (putNode l v 12 at (either s s) 1 0 0) (inv .same) (lists-putNode l v 12 at (either s s) 1 0 0 writes-few room);
                 gates = rw (lists-next f from v t, length-append) (omega (arith, inv .gates));
                 count = omega (arith, inv .count, buf-taken f from v t);
-                packed = let e : at + 1 ≡ suc at = add-one at in rw (← e) (packed-putNode l v at (inv .packed) 12 (either s s) 1 0 0 nodes-few room);
+                packed = let e : at + 1 ≡ suc at = add-one at in rw (← e) (packed-putNode l v at (inv .packed) 12 (either s s) 1 0 0 writes-few room);
                 nodes =
                     ns
                     ∙ rw (inv .nodes, is-buf s, sl, nodesOf-next from v, lists-suc l₀ i)
@@ -246,12 +281,12 @@ module _ (f : Family) (from l₀ l : List ℕ) (n i at v : ℕ) (inv : Writing f
               rw (em, add-one v, ec)
               (record {
                 upto = h;
-                same = lists-on l₀ l (putNode l v k at g d lo hi) (inv .same) (lists-putNode l v k at g d lo hi nodes-few wide);
+                same = lists-on l₀ l (putNode l v k at g d lo hi) (inv .same) (lists-putNode l v k at g d lo hi writes-few wide);
                 gates = rw (lists-skip f from v u) (inv .gates);
                 count = omega (arith, inv .count, buf-other f from v u);
-                packed = packed-putNode l v at (inv .packed) k g d lo hi nodes-few wide;
+                packed = packed-putNode l v at (inv .packed) k g d lo hi writes-few wide;
                 nodes =
-                    nodesOf-putNode l v at (inv .packed) k g d lo hi nodes-few wide
+                    nodesOf-putNode l v at (inv .packed) k g d lo hi writes-few wide
                     ∙ rw (inv .nodes, is-copy from v, nodesOf-next from v)
                     (sym (replaced-other f (nodesOf from v) (listsOf l₀ i) (gateAt from v) (length-lists l₀ i ∙ inv .gates ∙ lists-count f from v) u));
               })
@@ -261,4 +296,11 @@ module _ (f : Family) (from l₀ l : List ℕ) (n i at v : ℕ) (inv : Writing f
       let a = inv .upto in
       let e : v ≡ n = omega arith in
       let g : i ≡ length (listsIn f from n) = inv .gates ∙ ap (λ k. length (listsIn f from k)) e in
-      rw (← e, ← g) (record { count = inv .count; same = inv .same; packed = inv .packed; nodes = inv .nodes })
+      record {
+        count = inv .count ∙ ap (λ k. bufInputs f (nodesOf from k)) e;
+        same = inv .same;
+        packed = subst (λ (k : ℕ). Packed l k at) e (inv .packed);
+        nodes = sym (ap (nodesOf l) e) ∙ inv .nodes ∙ ap₂ (replaced f) (ap (nodesOf from) e) (ap (listsOf l₀) g);
+      }
+
+pub ruleset writes = (nodes-start, writes-few, nodes-more, nodes-long, nodes-i, nodes-i-more, nodes-at-more, nodes-buf, nodes-sig, nodes-taken, nodes-copy, nodes-fits, nodes-other, nodes-end)

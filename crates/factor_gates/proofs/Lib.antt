@@ -1,1 +1,5 @@
 -- What belongs to no one function.
+pub mod Rooms
+pub mod Growings
+pub mod Wholes
+pub mod Passings

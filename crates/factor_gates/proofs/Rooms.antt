@@ -1,4 +1,23 @@
 -- Laws of the room that a pass has.
+use Prim.Native.Nat.{suc, zero, ℕ, _+_, _-_, _/_, _<_, _≤_}
+use mathlib.Core.Path.{ap, sym, _∙_, _≡_}
+use mathlib.Core.Bool.{Bool, cond, false, true}
+use mathlib.Core.List.{List, [], _++_, _∷_}
+use native.Mathlib.Omega.{arith}
+use native.Mathlib.Nat.{add-assoc, le-refl}
+use native.Mathlib.Numerals.{add-one}
+use mir.Syntax.{w64}
+use mir.Val.{Fits}
+use lib.ListN.{length}
+use Rattle.model.specs.Gate.{Gate, fanin}
+use Rattle.model.specs.Sharing.{takes}
+use Rattle.shape.specs.Room.{bufInputs, roomOf}
+use Rattle.tables.specs.Layout.{countAt, gateAt, nodesOf}
+use Rattle.uses.specs.Loading.{Source}
+use Rattle.shape.proofs.FactoringGrown.{buf-le}
+use Rattle.tables.proofs.Building.{nodesOf-next, nodesOf-none}
+use Rattle.tables.proofs.Holding.{fanin-next, length-ins, length-nodesOf}
+use Rattle.uses.proofs.Walks.{source-few, source-more}
 use Rattle.kinds.specs.declared.Family.{Family}
 
 -- one more node

@@ -39,7 +39,15 @@ fn share_pairs(to: &mut [u32], g: usize, n: usize, room: usize) -> Built
 }
 
 // finalize: what was set aside given back, then the joins.
-fn finalize(from: &[u32], to: &mut [u32], n: usize, f: Family, g: usize, k: usize, room: usize) -> Built
+fn finalize(
+    from: &[u32],
+    to: &mut [u32],
+    n: usize,
+    f: Family,
+    g: usize,
+    k: usize,
+    room: usize,
+) -> Built
     requires { ⌜ Halfway (listsIn f (now from) n) (now from) (now to) g n k room ⌝ }
     ensures { λ r. ⌜ Finished (listsIn f (now (from .entry)) n) (now (to .exit)) g n room r ⌝ }
 {

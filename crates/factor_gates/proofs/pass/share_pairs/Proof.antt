@@ -1,0 +1,17 @@
+use borrow.Author.Needs.{needs}
+use Rattle.factor_gates.proofs.Passings.{shares}
+use Rattle.factor_gates.proofs.pass.share_pairs.Statement.{statement}
+use Rattle.factor_gates.proofs.pass.share_pairs.Tie as tie
+
+pub share-pairs-spec : {M : Type 1} → statement M
+share-pairs-spec =
+    tie.close
+    (tie.spec
+    (λ c κs. search (needs, shares))
+    (λ c. search (needs, shares))
+    (λ c κs. search (needs, shares))
+    (λ c. search (needs, shares))
+    (λ c. search (needs, shares))
+    (λ c. search (needs, shares))
+    (λ c. search (needs, shares))
+    (λ c. search (needs, shares)))

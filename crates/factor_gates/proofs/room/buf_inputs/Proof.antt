@@ -1,0 +1,30 @@
+use Prim.Native.Nat.{_-_}
+use borrow.Author.Needs.{needs}
+use Rattle.factor_gates.proofs.Rooms.{Summing, sums}
+use Rattle.factor_gates.proofs.room.buf_inputs.Statement.{statement}
+use Rattle.factor_gates.proofs.room.buf_inputs.Tie as tie
+
+abbrev Inv-loop : tie.InvT-loop
+Inv-loop from n f t₀ v₀ t v = Summing f from n t v
+
+abbrev μ-loop : tie.MeasureT-loop
+μ-loop from n f t₀ v₀ t v = n - v
+
+pub buf-inputs-spec : {M : Type 1} → statement M
+buf-inputs-spec =
+    tie.close
+    (tie.spec
+    Inv-loop
+    μ-loop
+    (λ c. search (needs, sums))
+    (λ c κs. search (needs, sums))
+    (λ c. search (needs, sums))
+    (λ c. search (needs, sums))
+    (λ c. search (needs, sums))
+    (λ c. search (needs, sums))
+    (λ c κs. search (needs, sums))
+    (λ c. search (needs, sums))
+    (λ c. search (needs, sums))
+    (λ c. search (needs, sums))
+    (λ c. search (needs, sums))
+    (λ c. search (needs, sums)))
