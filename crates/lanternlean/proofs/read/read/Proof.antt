@@ -6,6 +6,10 @@ use borrow.Author.Needs.{needs}
 use Rattle.lanternlean.proofs.read.read.Statement.{statement}
 use Rattle.lanternlean.proofs.read.read.Tie as tie
 
+returns : tie.Need-returns
+unfolding readOutcome readWork
+returns c = search (needs, enters)
+
 clear-areas-requires : tie.Need-clear-areas-requires
 clear-areas-requires c κs = areas-one _ _ _ (c .before .before .before .before .before .before .before .before .before .before .areas-short .ensures) (c .before .before .before .before .before .before .before .before .before .if1 .left) (c .before .before .before .before .before .before .work .last .1 .1 .0) (c .before .before .before .before .before .before .work .kept .1 .1 .0)
 
@@ -23,7 +27,7 @@ read-spec =
     (λ c κs. search needs)
     (λ c. search needs)
     (λ c. search needs)
-    (λ c. search (needs, enters))
+    returns
     (λ c. search needs)
     (λ c. search needs)
     (λ c. search (needs, enters))
