@@ -1,0 +1,28 @@
+-- From an entry's promise to its exported one.
+use mathlib.Core.Path.{_≡_, refl, sym, ap, _∙_, subst}
+use mathlib.Core.List.{List}
+use Prim.Native.Nat.{ℕ, _<_}
+use native.Mathlib.Omega.{arith}
+use Rattle.answers.specs.Numbers.{lengthOf}
+use Rattle.answers.specs.declared.Answer.{Answer}
+use Rattle.model.specs.Answers.{Outcome, answerOf, Kept, Kept2}
+use Rattle.model.specs.Entries.{readOutcome}
+use Rattle.exports.specs.Packed.{packed, Exported, Exported2}
+use Rattle.exports.proofs.Small.{Small, small-read}
+
+module _ (o : Outcome) (out a b : List ℕ) (r : Answer) (out′ a′ b′ : List ℕ) (K : Kept o out a b r out′ a′ b′) where
+  fits : Small o → lengthOf r < 4294967296
+  fits S = rw (K .answer) (let h = S .few in omega arith)
+
+  pub exported : (n : ℕ) → n ≡ packed r → Exported o out a b n out′ a′ b′
+  exported n e = record {
+    number = e ∙ ap packed (K .answer);
+    kept = record { answer = refl; result = K .result; area-a = K .area-a; area-b = K .area-b };
+  }
+
+-- ---- each entry
+
+pub read-fits : (img out a b : List ℕ) (r : Answer) (out′ a′ b′ : List ℕ) → Kept (readOutcome img out a b) out a b r out′ a′ b′ → lengthOf r < 4294967296
+read-fits img out a b r out′ a′ b′ K = fits (readOutcome img out a b) out a b r out′ a′ b′ K (small-read img out a b)
+
+pub ruleset exports = (exported, read-fits)

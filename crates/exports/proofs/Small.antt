@@ -1,0 +1,52 @@
+-- A length fits 32 bits: an image has at most 512 headers, 2,048 inputs, 1,024 table words, 64 outputs and a trailer.
+use mathlib.Core.Path.{_≡_, refl, sym, ap, _∙_}
+use mathlib.Core.Bool.{Bool, true, false, cond, _&&_}
+use mathlib.Core.List.{List, []}
+use Prim.Native.Nat.{ℕ, zero, suc, _≤_, _<_}
+use native.Mathlib.Omega.{arith}
+use lib.ListN.{length}
+use lib.Dec.{eqb, leb}
+use borrow.Author.Tests.{eqb-true}
+use Rattle.answers.specs.Numbers.{lengthOf}
+use Rattle.laws.proofs.Choices.{by-test}
+use Rattle.model.specs.Gate.{Net, Valid}
+use Rattle.model.specs.Image.{refusalOf, netOf, imageOf}
+use Rattle.model.specs.Answers.{Outcome, refused, written, evaluated, answerOf, areasShort, inAreas, inRoom, unless}
+use Rattle.model.specs.Entries.{readOutcome}
+use Rattle.shape.proofs.Sizes.{image-length}
+use Rattle.shape.proofs.Valids.{valid-net}
+
+-- the length that an outcome answers
+pub record Small (o : Outcome) : Type 0 where
+  pub few : lengthOf (answerOf o) ≤ 14608
+
+pub small-refused : (n : ℕ) → Small (refused n)
+small-refused n = record { few = omega arith }
+
+pub small-written : (N : Net) → Valid N → (m : List ℕ) → Small (written (imageOf N) m)
+small-written N h m = record { few = image-length N h }
+
+pub small-evaluated : (os st : List ℕ) → Small (evaluated os st)
+small-evaluated os st = record { few = omega arith }
+
+-- each step of the ladder
+pub small-room : (x y : ℕ) (o : Outcome) → Small o → Small (inRoom x y o)
+small-room x y (refused n) h = h
+small-room x y (written w m) h = by-test Small (leb (length w) x && leb (length m) y) (λ e. h) (λ e. small-refused 13)
+small-room x y (evaluated os st) h = h
+
+pub small-unless : (k : ℕ) (o : Outcome) → (k ≡ 0 → Small o) → Small (unless k o)
+unfolding unless
+small-unless k o h = by-test Small (eqb k 0) (λ e. h (eqb-true k 0 e)) (λ e. small-refused k)
+
+pub small-areas : (a b : List ℕ) (o : Outcome) → Small o → Small (inAreas a b o)
+unfolding inAreas
+small-areas a b o h = by-test Small (areasShort a b) (λ e. small-refused 1) (λ e. h)
+
+-- ---- each entry
+
+pub small-read : (img out a b : List ℕ) → Small (readOutcome img out a b)
+unfolding readOutcome
+small-read img out a b =
+    small-areas a b _
+    (small-room (length out) 0 _ (small-unless (refusalOf img) _ (λ e. small-written (netOf img) (valid-net img e) [])))

@@ -1,0 +1,41 @@
+// The entries for C and Rust (include/lanternlean.h), each with the entry's own promise. A slice is a pointer and a length in elements.
+ghost use mathlib.Core.Path.{_≡_};
+ghost use Prim.Native.Nat.{ℕ, _<_};
+ghost use lib.ListN.{length};
+ghost use Rattle.answers.specs.Numbers.{lengthOf};
+ghost use Rattle.model.specs.Image.{recordOf, recordAtOf};
+ghost use Rattle.model.specs.Entries.{readOutcome};
+ghost use Rattle.exports.specs.Packed.{packed, Exported};
+use answers::Answer;
+
+// An answer in one word: the number in its low 32 bits, the length in its high 32 bits.
+fn pack(a: Answer) -> u64
+    requires { ⌜ lengthOf a < 4294967296 ⌝ }
+    ensures { λ r. ⌜ r ≡ packed a ⌝ }
+{
+    (answers::number(a) as u64) + 4294967296 * (answers::length(a) as u64)
+}
+
+#[no_mangle]
+pub extern "C" fn ll_read(image: &[u8], out: &mut [u8], a: &mut [u32], b: &mut [u32]) -> u64
+    ensures { λ r. ⌜ Exported (readOutcome (now (image .entry)) (now (out .entry)) (now (a .entry)) (now (b .entry))) (now (out .entry)) (now (a .entry)) (now (b .entry)) r (now (out .exit)) (now (a .exit)) (now (b .exit)) ⌝ }
+{
+    pack(lanternlean::read::read(image, out, a, b))
+}
+
+// The byte of the image where record k begins, 0 if there is none.
+#[no_mangle]
+pub extern "C" fn ll_record_at(image: &[u8], k: u32) -> usize
+    ensures { λ r. ⌜ r ≡ recordAtOf (now (image .entry)) k ⌝ }
+{
+    lanternlean::record::record_at(image, k)
+}
+
+// Its length in bytes, 0 if there is none.
+#[no_mangle]
+pub extern "C" fn ll_record_len(image: &[u8], k: u32) -> usize
+    ensures { λ r. ⌜ r ≡ length (recordOf (now (image .entry)) k) ⌝ }
+{
+    let part = lanternlean::record::record(image, k);
+    part.len()
+}
