@@ -1,0 +1,78 @@
+// The entries: each has its code, its file's name and its arm of `run`.
+use crate::buffers::put;
+use crate::buffers::slice;
+use crate::recorded::IMAGE;
+use crate::recorded::K;
+use crate::recorded::part;
+use crate::recorded::word;
+use answers::Answer;
+use answers::length;
+use answers::number;
+use lanternlean::read::read;
+use lanternlean::record::record;
+use lanternlean::record::record_at;
+
+// The codes of docs/RECORDED.md, below CODES.
+const READ: u32 = 0;
+
+const RECORD: u32 = 9;
+
+pub const CODES: u32 = 10;
+
+// The name of an entry's file, to the front of path; answers its length, 0 for an entry that is not there.
+pub fn file_name(entry: u32, path: &mut [u8]) -> usize {
+    match entry {
+        READ => put(b"read.bin", path),
+        RECORD => put(b"record.bin", path),
+        _ => 0,
+    }
+}
+
+// What an entry answered: number and length, and for record where the part begins.
+pub struct Got {
+    pub number: u32,
+    pub length: usize,
+    pub start: usize,
+}
+
+// Runs an entry on what is lent.
+pub fn run(
+    entry: u32,
+    recorded: &[u8],
+    out: &mut [u8],
+    map: &mut [u32],
+    outputs: &mut [u8],
+    state: &mut [u8],
+    a: &mut [u32],
+    b: &mut [u32],
+) -> Got {
+    let image = part(recorded, IMAGE);
+    match entry {
+        READ => answered(read(image, out, a, b)),
+        _ => run_record(image, word(recorded, K)),
+    }
+}
+
+fn answered(r: Answer) -> Got {
+    Got {
+        number: number(r),
+        length: length(r),
+        start: 0,
+    }
+}
+
+// The entry without a number: it counts as 0 where the part has the image's bytes from there on, else as 1.
+fn run_record(image: &[u8], k: u32) -> Got {
+    let part = record(image, k);
+    let start = record_at(image, k);
+    let length = part.len();
+    Got {
+        number: number_of(check::same(part, slice(image, start, length))),
+        length,
+        start,
+    }
+}
+
+fn number_of(is_part: bool) -> u32 {
+    if is_part { 0 } else { 1 }
+}
