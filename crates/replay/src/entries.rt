@@ -1,4 +1,4 @@
-// The entries: each has its code, its file's name and its arm of `run`.
+// The entries: each has its code, its file's name, its arm of `run`, and its line in the file `stdout`, in the order of the codes.
 use crate::buffers::put;
 use crate::buffers::slice;
 use crate::recorded::IMAGE;
