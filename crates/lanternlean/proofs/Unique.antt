@@ -4,7 +4,7 @@ use mathlib.Core.List.{List}
 use Prim.Native.Nat.{ℕ}
 use Rattle.answers.specs.declared.Answer.{Answer}
 use Rattle.model.specs.Answers.{Outcome, Kept, Kept2}
-use Rattle.model.specs.Entries.{readOutcome}
+use Rattle.model.specs.Entries.{readOutcome, evaluateOutcome}
 
 -- two answers, and what two calls left, agree
 pub record Same (r : Answer) (out a b : List ℕ) (s : Answer) (out′ a′ b′ : List ℕ) : Type 0 where
@@ -33,3 +33,8 @@ module _ (img out a b : List ℕ) (r s : Answer) (out′ a′ b′ out″ a″ b
   pub unique-read : Kept (readOutcome img out a b) out a b r out′ a′ b′ → Kept (readOutcome img out a b) out a b s out″ a″ b″
       → Same r out′ a′ b′ s out″ a″ b″
   unique-read = unique (readOutcome img out a b) out a b r s out′ a′ b′ out″ a″ b″
+
+module _ (img ins st out a b : List ℕ) (r s : Answer) (out′ st′ a′ b′ out″ st″ a″ b″ : List ℕ) where
+  pub unique-evaluate : Kept2 (evaluateOutcome img ins st out a b) out st a b r out′ st′ a′ b′ → Kept2 (evaluateOutcome img ins st out a b) out st a b s out″ st″ a″ b″
+      → Same r out′ a′ b′ s out″ a″ b″ × (st′ ≡ st″)
+  unique-evaluate = unique2 (evaluateOutcome img ins st out a b) out a b r s out′ a′ b′ out″ a″ b″ st st′ st″

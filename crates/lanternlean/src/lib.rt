@@ -1,3 +1,4 @@
 // The public entries: each promises its answer and every lent word afterwards, for every input.
+pub mod evaluation;
 pub mod read;
 pub mod record;

@@ -4,9 +4,10 @@ use mathlib.Core.List.{List}
 use mathlib.Core.Bool.{Bool, true, false, cond, _&&_}
 use Prim.Native.Nat.{ℕ, _+_, _%_, _≤_}
 use native.Mathlib.Omega.{arith}
+use native.Mathlib.Decide.{ℕ-discrete}
 use lib.ListN.{length}
 use lib.Dec.{leb, eqb}
-use borrow.Author.Tests.{leb-true, le-leb, eqb-true, eq-eqb}
+use borrow.Author.Tests.{leb-true, le-leb, eqb-true, eq-eqb, ne-eqb}
 use Rattle.laws.proofs.Bools.{and-left, and-right}
 use Rattle.model.specs.Gate.{fanin, wired, isTopoSorted}
 use Rattle.model.specs.Image.{inputsIn, nodesIn, outsIn, spanIn, wordsOf, soundFrom, endFrom, netIn, netOf, framed, within, laid, bodyRefusal, refusalOf, sortedRefusalOf}
@@ -128,3 +129,14 @@ accepts img a =
 pub accepts-sorted : (img : List ℕ) → refusalOf img ≡ 0 → isTopoSorted (netOf img) ≡ true → sortedRefusalOf img ≡ 0
 unfolding sortedRefusalOf
 accepts-sorted img e s = simp (eq-eqb (refusalOf img) 0 e, s)
+
+pub accepted-sorted : (img : List ℕ) → sortedRefusalOf img ≡ 0 → isTopoSorted (netOf img) ≡ true
+unfolding sortedRefusalOf
+accepted-sorted img e = go (refusalOf img) (isTopoSorted (netOf img)) e
+  where
+    go : (k : ℕ) (b : Bool) → cond (eqb k 0) (cond b 0 7) k ≡ 0 → b ≡ true
+    go k true q = refl
+    go k false q = elim (ℕ-discrete k 0) [
+      | yes z ↦ let w : _≡_ {A = ℕ} 7 0 = rw z at q in absurd (omega arith)
+      | no z ↦ let w : k ≡ 0 = rw (ne-eqb k 0 z) at q in absurd (z w)
+    ]

@@ -1,0 +1,56 @@
+// Evaluation: 1; 2 to 7; 13; 14; or one cycle, by bytes: one for each input, a state byte for each node. A byte for each output is
+// written, and the state bytes of flip-flops only.
+ghost use Prim.Native.Nat.{ℕ, _≤_};
+ghost use lib.ListN.{length};
+ghost use Rattle.model.specs.Answers.{Kept2};
+ghost use Rattle.model.specs.Entries.{evaluateOutcome};
+ghost use Rattle.tables.specs.Working.{Answered2};
+ghost use Rattle.lanternlean.specs.Works.{evaluateWork};
+use answers::Answer;
+use load::Loaded;
+use load::load_sorted;
+use tables::layout::areas_short;
+use tables::layout::clear_areas;
+
+fn work(
+    image: &[u8],
+    inputs: &[u8],
+    state: &mut [u8],
+    outputs: &mut [u8],
+    a: &mut [u32],
+    b: &mut [u32],
+) -> Answer
+    requires { ⌜ (16384 ≤ length (now a)) × (16384 ≤ length (now b)) ⌝ }
+    ensures { λ r. ⌜ Answered2 (evaluateWork (now (image .entry)) (now (inputs .entry)) (now (state .entry)) (length (now (outputs .entry)))) (now (outputs .entry)) (now (state .entry)) r (now (outputs .exit)) (now (state .exit)) ⌝ }
+{
+    let l = load_sorted(image, a);
+    match l {
+        Loaded::Refused(n) => Answer::Refused(n),
+        Loaded::Network(counts) => evaluate::evaluate(a, b, counts, inputs, state, outputs),
+    }
+}
+
+pub fn evaluate(
+    image: &[u8],
+    inputs: &[u8],
+    state: &mut [u8],
+    outputs: &mut [u8],
+    a: &mut [u32],
+    b: &mut [u32],
+) -> Answer
+    ensures { λ r. ⌜ Kept2 (evaluateOutcome (now (image .entry)) (now (inputs .entry)) (now (state .entry)) (now (outputs .entry)) (now (a .entry)) (now (b .entry))) (now (outputs .entry)) (now (state .entry)) (now (a .entry)) (now (b .entry)) r (now (outputs .exit)) (now (state .exit)) (now (a .exit)) (now (b .exit)) ⌝ }
+{
+    if areas_short(a, b) {
+        return Answer::Refused(1);
+    }
+    let r = work(
+        image,
+        inputs,
+        state,
+        outputs,
+        &mut a[0..16384],
+        &mut b[0..16384],
+    );
+    clear_areas(a, b);
+    r
+}
