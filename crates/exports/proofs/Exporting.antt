@@ -6,9 +6,9 @@ use native.Mathlib.Omega.{arith}
 use Rattle.answers.specs.Numbers.{lengthOf}
 use Rattle.answers.specs.declared.Answer.{Answer}
 use Rattle.model.specs.Answers.{Outcome, answerOf, Kept, Kept2}
-use Rattle.model.specs.Entries.{readOutcome}
+use Rattle.model.specs.Entries.{readOutcome, evaluateOutcome}
 use Rattle.exports.specs.Packed.{packed, Exported, Exported2}
-use Rattle.exports.proofs.Small.{Small, small-read}
+use Rattle.exports.proofs.Small.{Small, small-read, small-evaluate}
 
 module _ (o : Outcome) (out a b : List ℕ) (r : Answer) (out′ a′ b′ : List ℕ) (K : Kept o out a b r out′ a′ b′) where
   fits : Small o → lengthOf r < 4294967296
@@ -20,9 +20,21 @@ module _ (o : Outcome) (out a b : List ℕ) (r : Answer) (out′ a′ b′ : Lis
     kept = record { answer = refl; result = K .result; area-a = K .area-a; area-b = K .area-b };
   }
 
+-- with a mapping, or a state
+pub exported2 : (o : Outcome) (out second a b : List ℕ) (r : Answer) (out′ second′ a′ b′ : List ℕ) → Kept2 o out second a b r out′ second′ a′ b′
+    → (n : ℕ) → n ≡ packed r → Exported2 o out second a b n out′ second′ a′ b′
+exported2 o out second a b r out′ second′ a′ b′ K n e =
+    let E = exported o out a b r out′ a′ b′ (K .first) n e in
+    record { number = E .number; kept = record { first = E .kept; second-is = K .second-is } }
+
 -- ---- each entry
 
 pub read-fits : (img out a b : List ℕ) (r : Answer) (out′ a′ b′ : List ℕ) → Kept (readOutcome img out a b) out a b r out′ a′ b′ → lengthOf r < 4294967296
 read-fits img out a b r out′ a′ b′ K = fits (readOutcome img out a b) out a b r out′ a′ b′ K (small-read img out a b)
 
-pub ruleset exports = (exported, read-fits)
+pub evaluate-fits : (img inputs state out a b : List ℕ) (r : Answer) (out′ state′ a′ b′ : List ℕ)
+    → Kept2 (evaluateOutcome img inputs state out a b) out state a b r out′ state′ a′ b′ → lengthOf r < 4294967296
+evaluate-fits img inputs state out a b r out′ state′ a′ b′ K =
+    fits (evaluateOutcome img inputs state out a b) out a b r out′ a′ b′ (K .first) (small-evaluate img inputs state out a b)
+
+pub ruleset exports = (exported, exported2, read-fits, evaluate-fits)

@@ -10,9 +10,10 @@ use borrow.Author.Tests.{eqb-true}
 use Rattle.answers.specs.Numbers.{lengthOf}
 use Rattle.laws.proofs.Choices.{by-test}
 use Rattle.model.specs.Gate.{Net, Valid}
-use Rattle.model.specs.Image.{refusalOf, netOf, imageOf}
+use Rattle.model.specs.Image.{refusalOf, sortedRefusalOf, netOf, imageOf}
 use Rattle.model.specs.Answers.{Outcome, refused, written, evaluated, answerOf, areasShort, inAreas, inRoom, unless}
-use Rattle.model.specs.Entries.{readOutcome}
+use Rattle.model.specs.Evaluate.{cycleRefusal}
+use Rattle.model.specs.Entries.{readOutcome, evaluatedOf, cycleOutcome, evaluateOutcome}
 use Rattle.shape.proofs.Sizes.{image-length}
 use Rattle.shape.proofs.Valids.{valid-net}
 
@@ -50,3 +51,9 @@ unfolding readOutcome
 small-read img out a b =
     small-areas a b _
     (small-room (length out) 0 _ (small-unless (refusalOf img) _ (λ e. small-written (netOf img) (valid-net img e) [])))
+
+pub small-evaluate : (img inputs state out a b : List ℕ) → Small (evaluateOutcome img inputs state out a b)
+unfolding evaluateOutcome cycleOutcome evaluatedOf
+small-evaluate img inputs state out a b =
+    small-areas a b _
+    (small-unless (sortedRefusalOf img) _ (λ e. small-unless (cycleRefusal (netOf img) inputs state (length out)) _ (λ e. small-evaluated _ _)))

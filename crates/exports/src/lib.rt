@@ -4,8 +4,8 @@ ghost use Prim.Native.Nat.{ℕ, _<_};
 ghost use lib.ListN.{length};
 ghost use Rattle.answers.specs.Numbers.{lengthOf};
 ghost use Rattle.model.specs.Image.{recordOf, recordAtOf};
-ghost use Rattle.model.specs.Entries.{readOutcome};
-ghost use Rattle.exports.specs.Packed.{packed, Exported};
+ghost use Rattle.model.specs.Entries.{readOutcome, evaluateOutcome};
+ghost use Rattle.exports.specs.Packed.{packed, Exported, Exported2};
 use answers::Answer;
 
 // An answer in one word: the number in its low 32 bits, the length in its high 32 bits.
@@ -21,6 +21,20 @@ pub extern "C" fn ll_read(image: &[u8], out: &mut [u8], a: &mut [u32], b: &mut [
     ensures { λ r. ⌜ Exported (readOutcome (now (image .entry)) (now (out .entry)) (now (a .entry)) (now (b .entry))) (now (out .entry)) (now (a .entry)) (now (b .entry)) r (now (out .exit)) (now (a .exit)) (now (b .exit)) ⌝ }
 {
     pack(lanternlean::read::read(image, out, a, b))
+}
+
+#[no_mangle]
+pub extern "C" fn ll_evaluate(
+    image: &[u8],
+    inputs: &[u8],
+    state: &mut [u8],
+    outputs: &mut [u8],
+    a: &mut [u32],
+    b: &mut [u32],
+) -> u64
+    ensures { λ r. ⌜ Exported2 (evaluateOutcome (now (image .entry)) (now (inputs .entry)) (now (state .entry)) (now (outputs .entry)) (now (a .entry)) (now (b .entry))) (now (outputs .entry)) (now (state .entry)) (now (a .entry)) (now (b .entry)) r (now (outputs .exit)) (now (state .exit)) (now (a .exit)) (now (b .exit)) ⌝ }
+{
+    pack(lanternlean::evaluation::evaluate(image, inputs, state, outputs, a, b))
 }
 
 // The byte of the image where record k begins, 0 if there is none.
