@@ -2,18 +2,22 @@
 use crate::buffers::put;
 use crate::buffers::slice;
 use crate::recorded::IMAGE;
+use crate::recorded::INPUTS;
 use crate::recorded::K;
 use crate::recorded::part;
 use crate::recorded::word;
 use answers::Answer;
 use answers::length;
 use answers::number;
+use lanternlean::evaluation::evaluate;
 use lanternlean::read::read;
 use lanternlean::record::record;
 use lanternlean::record::record_at;
 
 // The codes of docs/RECORDED.md, below CODES.
 const READ: u32 = 0;
+
+const EVALUATE: u32 = 8;
 
 const RECORD: u32 = 9;
 
@@ -23,6 +27,7 @@ pub const CODES: u32 = 10;
 pub fn file_name(entry: u32, path: &mut [u8]) -> usize {
     match entry {
         READ => put(b"read.bin", path),
+        EVALUATE => put(b"evaluate.bin", path),
         RECORD => put(b"record.bin", path),
         _ => 0,
     }
@@ -49,6 +54,10 @@ pub fn run(
     let image = part(recorded, IMAGE);
     match entry {
         READ => answered(read(image, out, a, b)),
+        EVALUATE => {
+            let inputs = part(recorded, INPUTS);
+            answered(evaluate(image, inputs, state, outputs, a, b))
+        }
         _ => run_record(image, word(recorded, K)),
     }
 }
