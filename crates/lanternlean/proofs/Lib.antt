@@ -1,3 +1,4 @@
 pub mod Entering
 pub mod Working
+pub mod Merging
 pub mod Unique

@@ -4,7 +4,7 @@ use mathlib.Core.List.{List}
 use Prim.Native.Nat.{ℕ}
 use Rattle.answers.specs.declared.Answer.{Answer}
 use Rattle.model.specs.Answers.{Outcome, Kept, Kept2}
-use Rattle.model.specs.Entries.{readOutcome, evaluateOutcome}
+use Rattle.model.specs.Entries.{readOutcome, evaluateOutcome, canonicalOutcome, dedupOutcome}
 
 -- two answers, and what two calls left, agree
 pub record Same (r : Answer) (out a b : List ℕ) (s : Answer) (out′ a′ b′ : List ℕ) : Type 0 where
@@ -38,3 +38,17 @@ module _ (img ins st out a b : List ℕ) (r s : Answer) (out′ st′ a′ b′ 
   pub unique-evaluate : Kept2 (evaluateOutcome img ins st out a b) out st a b r out′ st′ a′ b′ → Kept2 (evaluateOutcome img ins st out a b) out st a b s out″ st″ a″ b″
       → Same r out′ a′ b′ s out″ a″ b″ × (st′ ≡ st″)
   unique-evaluate = unique2 (evaluateOutcome img ins st out a b) out a b r s out′ a′ b′ out″ a″ b″ st st′ st″
+
+-- the entries that write a mapping
+module _ (img out map a b : List ℕ) (r s : Answer) (out′ map′ a′ b′ out″ map″ a″ b″ : List ℕ) where
+  abbrev Once : Outcome → Type 0
+  Once o = Kept2 o out map a b r out′ map′ a′ b′ → Kept2 o out map a b s out″ map″ a″ b″ → Same r out′ a′ b′ s out″ a″ b″ × (map′ ≡ map″)
+
+  once : (o : Outcome) → Once o
+  once o = unique2 o out a b r s out′ a′ b′ out″ a″ b″ map map′ map″
+
+  pub unique-canonical : Once (canonicalOutcome img out map a b)
+  unique-canonical = once (canonicalOutcome img out map a b)
+
+  pub unique-dedup : Once (dedupOutcome img out map a b)
+  unique-dedup = once (dedupOutcome img out map a b)

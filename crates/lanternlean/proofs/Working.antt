@@ -38,6 +38,9 @@ module _ (k : ℕ) (img l : List ℕ) (x : Loaded) (R : Read k img l x) where
     passes : (k ≡ 0) × (c ≡ countsOf img)
     passes = passes-by k (countsOf img) c (sym q ∙ R .answer)
 
+    pub network-passes : k ≡ 0
+    network-passes = passes .0
+
     pub network-holds : Holds l c (netOf img)
     network-holds = rw (passes .1) (R .holds (passes .0))
 

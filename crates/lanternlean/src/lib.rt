@@ -1,4 +1,7 @@
 // The public entries: each promises its answer and every lent word afterwards, for every input.
+pub mod canonical;
+pub mod deduplicate;
 pub mod evaluation;
+mod merged;
 pub mod read;
 pub mod record;
