@@ -6,9 +6,9 @@ use native.Mathlib.Omega.{arith}
 use Rattle.answers.specs.Numbers.{lengthOf}
 use Rattle.answers.specs.declared.Answer.{Answer}
 use Rattle.model.specs.Answers.{Outcome, answerOf, Kept, Kept2}
-use Rattle.model.specs.Entries.{readOutcome, evaluateOutcome}
+use Rattle.model.specs.Entries.{readOutcome, evaluateOutcome, canonicalOutcome, dedupOutcome}
 use Rattle.exports.specs.Packed.{packed, Exported, Exported2}
-use Rattle.exports.proofs.Small.{Small, small-read, small-evaluate}
+use Rattle.exports.proofs.Small.{Small, small-read, small-evaluate, small-canonical, small-dedup}
 
 module _ (o : Outcome) (out a b : List ℕ) (r : Answer) (out′ a′ b′ : List ℕ) (K : Kept o out a b r out′ a′ b′) where
   fits : Small o → lengthOf r < 4294967296
@@ -37,4 +37,12 @@ pub evaluate-fits : (img inputs state out a b : List ℕ) (r : Answer) (out′ s
 evaluate-fits img inputs state out a b r out′ state′ a′ b′ K =
     fits (evaluateOutcome img inputs state out a b) out a b r out′ a′ b′ (K .first) (small-evaluate img inputs state out a b)
 
-pub ruleset exports = (exported, exported2, read-fits, evaluate-fits)
+-- the entries with a mapping
+module _ (img out mapping a b : List ℕ) (r : Answer) (out′ mapping′ a′ b′ : List ℕ) where
+  pub canonical-fits : Kept2 (canonicalOutcome img out mapping a b) out mapping a b r out′ mapping′ a′ b′ → lengthOf r < 4294967296
+  canonical-fits K = fits (canonicalOutcome img out mapping a b) out a b r out′ a′ b′ (K .first) (small-canonical img out mapping a b)
+
+  pub dedup-fits : Kept2 (dedupOutcome img out mapping a b) out mapping a b r out′ mapping′ a′ b′ → lengthOf r < 4294967296
+  dedup-fits K = fits (dedupOutcome img out mapping a b) out a b r out′ a′ b′ (K .first) (small-dedup img out mapping a b)
+
+pub ruleset exports = (exported, exported2, read-fits, evaluate-fits, canonical-fits, dedup-fits)

@@ -13,9 +13,15 @@ use Rattle.model.specs.Gate.{Net, Valid}
 use Rattle.model.specs.Image.{refusalOf, sortedRefusalOf, netOf, imageOf}
 use Rattle.model.specs.Answers.{Outcome, refused, written, evaluated, answerOf, areasShort, inAreas, inRoom, unless}
 use Rattle.model.specs.Evaluate.{cycleRefusal}
-use Rattle.model.specs.Entries.{readOutcome, evaluatedOf, cycleOutcome, evaluateOutcome}
+use Rattle.model.specs.Normal.{makeCanonical}
+use Rattle.model.specs.Network.{asIs}
+use Rattle.model.specs.Entries.{readOutcome, evaluatedOf, cycleOutcome, evaluateOutcome, canonicalOutcome, dedupOutcome}
 use Rattle.shape.proofs.Sizes.{image-length}
 use Rattle.shape.proofs.Valids.{valid-net}
+use Rattle.shape.proofs.Ladder.{sorted-at0}
+use Rattle.shape.proofs.Accepted.{accepted-sorted}
+use Rattle.shape.proofs.Dedup.{dedup-valid}
+use Rattle.shape.proofs.DedupNormal.{NormLaw, asIs-law, canonical-law}
 
 -- the length that an outcome answers
 pub record Small (o : Outcome) : Type 0 where
@@ -57,3 +63,24 @@ unfolding evaluateOutcome cycleOutcome evaluatedOf
 small-evaluate img inputs state out a b =
     small-areas a b _
     (small-unless (sortedRefusalOf img) _ (λ e. small-unless (cycleRefusal (netOf img) inputs state (length out)) _ (λ e. small-evaluated _ _)))
+
+-- an image that meets none of 2 to 7 holds a valid network, and so does what dedup leaves of it
+valid-sorted : (img : List ℕ) → sortedRefusalOf img ≡ 0 → Valid (netOf img)
+valid-sorted img e = valid-net img (sorted-at0 img .0 e .0)
+
+module _ (img out mapping a b : List ℕ) where
+  pub small-canonical : Small (canonicalOutcome img out mapping a b)
+  unfolding canonicalOutcome
+  small-canonical =
+      small-areas a b _
+      (small-room (length out) (length mapping) _
+      (small-unless (sortedRefusalOf img) _
+      (λ e. small-written _ (dedup-valid makeCanonical canonical-law (netOf img) (valid-sorted img e) (accepted-sorted img e)) _)))
+
+  pub small-dedup : Small (dedupOutcome img out mapping a b)
+  unfolding dedupOutcome
+  small-dedup =
+      small-areas a b _
+      (small-room (length out) (length mapping) _
+      (small-unless (sortedRefusalOf img) _
+      (λ e. small-written _ (dedup-valid asIs asIs-law (netOf img) (valid-sorted img e) (accepted-sorted img e)) _)))
