@@ -9,6 +9,8 @@ use crate::recorded::word;
 use answers::Answer;
 use answers::length;
 use answers::number;
+use lanternlean::canonical::canonical;
+use lanternlean::deduplicate::dedup;
 use lanternlean::evaluation::evaluate;
 use lanternlean::read::read;
 use lanternlean::record::record;
@@ -16,6 +18,10 @@ use lanternlean::record::record_at;
 
 // The codes of docs/RECORDED.md, below CODES.
 const READ: u32 = 0;
+
+const CANONICAL: u32 = 1;
+
+const DEDUP: u32 = 2;
 
 const EVALUATE: u32 = 8;
 
@@ -27,6 +33,8 @@ pub const CODES: u32 = 10;
 pub fn file_name(entry: u32, path: &mut [u8]) -> usize {
     match entry {
         READ => put(b"read.bin", path),
+        CANONICAL => put(b"canonical.bin", path),
+        DEDUP => put(b"dedup.bin", path),
         EVALUATE => put(b"evaluate.bin", path),
         RECORD => put(b"record.bin", path),
         _ => 0,
@@ -54,6 +62,8 @@ pub fn run(
     let image = part(recorded, IMAGE);
     match entry {
         READ => answered(read(image, out, a, b)),
+        CANONICAL => answered(canonical(image, out, map, a, b)),
+        DEDUP => answered(dedup(image, out, map, a, b)),
         EVALUATE => {
             let inputs = part(recorded, INPUTS);
             answered(evaluate(image, inputs, state, outputs, a, b))
