@@ -54,6 +54,9 @@ module _ (a b : List ℕ) (t : Bool) (e : t ≡ areasShort a b) where
 pub part-long : (l : List ℕ) → 16384 ≤ length l → 16384 ≤ length (take 16384 l)
 part-long l h = rw (length-take-le 16384 l h) (omega arith)
 
+pub areas-lent : (a b : List ℕ) (t : Bool) → t ≡ areasShort a b → t ≡ false → Areas (take 16384 a) (take 16384 b)
+areas-lent a b t e s = record { long-a = part-long a (long-a a b t e s); long-b = part-long b (long-b a b t e s) }
+
 module _ (x l : List ℕ) (k : length x ≡ length (take 16384 l)) where
   pub same-back : (l′ : List ℕ) → length l′ ≡ length (x ++ drop 16384 l) → length l′ ≡ length l
   same-back l′ e = e ∙ length-front l x 16384 k

@@ -1,4 +1,5 @@
 pub mod Entering
 pub mod Working
 pub mod Merging
+pub mod Mappings
 pub mod Unique

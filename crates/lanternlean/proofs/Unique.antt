@@ -4,7 +4,7 @@ use mathlib.Core.List.{List}
 use Prim.Native.Nat.{ℕ}
 use Rattle.answers.specs.declared.Answer.{Answer}
 use Rattle.model.specs.Answers.{Outcome, Kept, Kept2}
-use Rattle.model.specs.Entries.{readOutcome, evaluateOutcome, canonicalOutcome, dedupOutcome}
+use Rattle.model.specs.Entries.{readOutcome, evaluateOutcome, canonicalOutcome, dedupOutcome, cleanupOutcome, sortOutcome}
 
 -- two answers, and what two calls left, agree
 pub record Same (r : Answer) (out a b : List ℕ) (s : Answer) (out′ a′ b′ : List ℕ) : Type 0 where
@@ -52,3 +52,9 @@ module _ (img out map a b : List ℕ) (r s : Answer) (out′ map′ a′ b′ ou
 
   pub unique-dedup : Once (dedupOutcome img out map a b)
   unique-dedup = once (dedupOutcome img out map a b)
+
+  pub unique-cleanup : Once (cleanupOutcome img out map a b)
+  unique-cleanup = once (cleanupOutcome img out map a b)
+
+  pub unique-sort : Once (sortOutcome img out map a b)
+  unique-sort = once (sortOutcome img out map a b)
