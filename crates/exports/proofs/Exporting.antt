@@ -6,9 +6,9 @@ use native.Mathlib.Omega.{arith}
 use Rattle.answers.specs.Numbers.{lengthOf}
 use Rattle.answers.specs.declared.Answer.{Answer}
 use Rattle.model.specs.Answers.{Outcome, answerOf, Kept, Kept2}
-use Rattle.model.specs.Entries.{readOutcome, evaluateOutcome, canonicalOutcome, dedupOutcome}
+use Rattle.model.specs.Entries.{readOutcome, evaluateOutcome, canonicalOutcome, dedupOutcome, cleanupOutcome, sortOutcome}
 use Rattle.exports.specs.Packed.{packed, Exported, Exported2}
-use Rattle.exports.proofs.Small.{Small, small-read, small-evaluate, small-canonical, small-dedup}
+use Rattle.exports.proofs.Small.{Small, small-read, small-evaluate, small-canonical, small-dedup, small-cleanup, small-sort}
 
 module _ (o : Outcome) (out a b : List ℕ) (r : Answer) (out′ a′ b′ : List ℕ) (K : Kept o out a b r out′ a′ b′) where
   fits : Small o → lengthOf r < 4294967296
@@ -45,4 +45,10 @@ module _ (img out mapping a b : List ℕ) (r : Answer) (out′ mapping′ a′ b
   pub dedup-fits : Kept2 (dedupOutcome img out mapping a b) out mapping a b r out′ mapping′ a′ b′ → lengthOf r < 4294967296
   dedup-fits K = fits (dedupOutcome img out mapping a b) out a b r out′ a′ b′ (K .first) (small-dedup img out mapping a b)
 
-pub ruleset exports = (exported, exported2, read-fits, evaluate-fits, canonical-fits, dedup-fits)
+  pub cleanup-fits : Kept2 (cleanupOutcome img out mapping a b) out mapping a b r out′ mapping′ a′ b′ → lengthOf r < 4294967296
+  cleanup-fits K = fits (cleanupOutcome img out mapping a b) out a b r out′ a′ b′ (K .first) (small-cleanup img out mapping a b)
+
+  pub sort-fits : Kept2 (sortOutcome img out mapping a b) out mapping a b r out′ mapping′ a′ b′ → lengthOf r < 4294967296
+  sort-fits K = fits (sortOutcome img out mapping a b) out a b r out′ a′ b′ (K .first) (small-sort img out mapping a b)
+
+pub ruleset exports = (exported, exported2, read-fits, evaluate-fits, canonical-fits, dedup-fits, cleanup-fits, sort-fits)

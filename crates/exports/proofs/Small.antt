@@ -14,12 +14,14 @@ use Rattle.model.specs.Image.{refusalOf, sortedRefusalOf, netOf, imageOf}
 use Rattle.model.specs.Answers.{Outcome, refused, written, evaluated, answerOf, areasShort, inAreas, inRoom, unless}
 use Rattle.model.specs.Evaluate.{cycleRefusal}
 use Rattle.model.specs.Normal.{makeCanonical}
-use Rattle.model.specs.Network.{asIs}
-use Rattle.model.specs.Entries.{readOutcome, evaluatedOf, cycleOutcome, evaluateOutcome, canonicalOutcome, dedupOutcome}
+use Rattle.model.specs.Network.{asIs, sorts}
+use Rattle.model.specs.Entries.{readOutcome, evaluatedOf, cycleOutcome, evaluateOutcome, canonicalOutcome, dedupOutcome, cleanupOutcome, sortOutcome}
 use Rattle.shape.proofs.Sizes.{image-length}
 use Rattle.shape.proofs.Valids.{valid-net}
 use Rattle.shape.proofs.Ladder.{sorted-at0}
 use Rattle.shape.proofs.Accepted.{accepted-sorted}
+use Rattle.shape.proofs.Cleanup.{cleanup-valid}
+use Rattle.shape.proofs.Sort.{sort-valid}
 use Rattle.shape.proofs.Dedup.{dedup-valid}
 use Rattle.shape.proofs.DedupNormal.{NormLaw, asIs-law, canonical-law}
 
@@ -84,3 +86,18 @@ module _ (img out mapping a b : List ℕ) where
       (small-room (length out) (length mapping) _
       (small-unless (sortedRefusalOf img) _
       (λ e. small-written _ (dedup-valid asIs asIs-law (netOf img) (valid-sorted img e) (accepted-sorted img e)) _)))
+
+  pub small-cleanup : Small (cleanupOutcome img out mapping a b)
+  unfolding cleanupOutcome
+  small-cleanup =
+      small-areas a b _
+      (small-room (length out) (length mapping) _
+      (small-unless (refusalOf img) _ (λ e. small-written _ (cleanup-valid (netOf img) (valid-net img e)) _)))
+
+  pub small-sort : Small (sortOutcome img out mapping a b)
+  unfolding sortOutcome
+  small-sort =
+      small-areas a b _
+      (small-room (length out) (length mapping) _
+      (small-unless (refusalOf img) _
+      (λ e. by-test Small (sorts (netOf img)) (λ t. small-written _ (sort-valid (netOf img) (valid-net img e) t) _) (λ t. small-refused 8))))

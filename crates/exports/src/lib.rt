@@ -4,7 +4,7 @@ ghost use Prim.Native.Nat.{ℕ, _<_};
 ghost use lib.ListN.{length};
 ghost use Rattle.answers.specs.Numbers.{lengthOf};
 ghost use Rattle.model.specs.Image.{recordOf, recordAtOf};
-ghost use Rattle.model.specs.Entries.{readOutcome, evaluateOutcome, canonicalOutcome, dedupOutcome};
+ghost use Rattle.model.specs.Entries.{readOutcome, evaluateOutcome, canonicalOutcome, dedupOutcome, cleanupOutcome, sortOutcome};
 ghost use Rattle.exports.specs.Packed.{packed, Exported, Exported2};
 use answers::Answer;
 
@@ -47,6 +47,32 @@ pub extern "C" fn ll_dedup(
     ensures { λ r. ⌜ Exported2 (dedupOutcome (now (image .entry)) (now (out .entry)) (now (map .entry)) (now (a .entry)) (now (b .entry))) (now (out .entry)) (now (map .entry)) (now (a .entry)) (now (b .entry)) r (now (out .exit)) (now (map .exit)) (now (a .exit)) (now (b .exit)) ⌝ }
 {
     pack(lanternlean::deduplicate::dedup(image, out, map, a, b))
+}
+
+#[no_mangle]
+pub extern "C" fn ll_cleanup(
+    image: &[u8],
+    out: &mut [u8],
+    map: &mut [u32],
+    a: &mut [u32],
+    b: &mut [u32],
+) -> u64
+    ensures { λ r. ⌜ Exported2 (cleanupOutcome (now (image .entry)) (now (out .entry)) (now (map .entry)) (now (a .entry)) (now (b .entry))) (now (out .entry)) (now (map .entry)) (now (a .entry)) (now (b .entry)) r (now (out .exit)) (now (map .exit)) (now (a .exit)) (now (b .exit)) ⌝ }
+{
+    pack(lanternlean::cleaning::cleanup(image, out, map, a, b))
+}
+
+#[no_mangle]
+pub extern "C" fn ll_sort(
+    image: &[u8],
+    out: &mut [u8],
+    map: &mut [u32],
+    a: &mut [u32],
+    b: &mut [u32],
+) -> u64
+    ensures { λ r. ⌜ Exported2 (sortOutcome (now (image .entry)) (now (out .entry)) (now (map .entry)) (now (a .entry)) (now (b .entry))) (now (out .entry)) (now (map .entry)) (now (a .entry)) (now (b .entry)) r (now (out .exit)) (now (map .exit)) (now (a .exit)) (now (b .exit)) ⌝ }
+{
+    pack(lanternlean::sort::sort(image, out, map, a, b))
 }
 
 #[no_mangle]

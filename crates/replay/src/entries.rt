@@ -10,11 +10,13 @@ use answers::Answer;
 use answers::length;
 use answers::number;
 use lanternlean::canonical::canonical;
+use lanternlean::cleaning::cleanup;
 use lanternlean::deduplicate::dedup;
 use lanternlean::evaluation::evaluate;
 use lanternlean::read::read;
 use lanternlean::record::record;
 use lanternlean::record::record_at;
+use lanternlean::sort::sort;
 
 // The codes of docs/RECORDED.md, below CODES.
 const READ: u32 = 0;
@@ -22,6 +24,10 @@ const READ: u32 = 0;
 const CANONICAL: u32 = 1;
 
 const DEDUP: u32 = 2;
+
+const CLEANUP: u32 = 3;
+
+const SORT: u32 = 4;
 
 const EVALUATE: u32 = 8;
 
@@ -35,6 +41,8 @@ pub fn file_name(entry: u32, path: &mut [u8]) -> usize {
         READ => put(b"read.bin", path),
         CANONICAL => put(b"canonical.bin", path),
         DEDUP => put(b"dedup.bin", path),
+        CLEANUP => put(b"cleanup.bin", path),
+        SORT => put(b"sort.bin", path),
         EVALUATE => put(b"evaluate.bin", path),
         RECORD => put(b"record.bin", path),
         _ => 0,
@@ -64,6 +72,8 @@ pub fn run(
         READ => answered(read(image, out, a, b)),
         CANONICAL => answered(canonical(image, out, map, a, b)),
         DEDUP => answered(dedup(image, out, map, a, b)),
+        CLEANUP => answered(cleanup(image, out, map, a, b)),
+        SORT => answered(sort(image, out, map, a, b)),
         EVALUATE => {
             let inputs = part(recorded, INPUTS);
             answered(evaluate(image, inputs, state, outputs, a, b))

@@ -1,0 +1,16 @@
+use Rattle.exports.proofs.Exporting.{exports}
+use borrow.Author.Needs.{needs}
+use Rattle.exports.proofs.ll_cleanup.Statement.{statement}
+use Rattle.exports.proofs.ll_cleanup.Tie as tie
+
+pub ll-cleanup-spec : {M : Type 1} → statement M
+ll-cleanup-spec =
+    tie.close
+    (tie.spec
+    (λ c κs. search needs)
+    (λ c κs. search (needs, exports))
+    (λ c. search needs)
+    (λ c. search needs)
+    (λ c. search needs)
+    (λ c. search needs)
+    (λ c. search (needs, exports)))
