@@ -8,11 +8,11 @@ use lib.Dec.{eqb, leb, ltb}
 use Rattle.laws.specs.Bools.{bit}
 use Rattle.kinds.specs.Kinds.{kindOf, inFamily, wideOf}
 use Rattle.kinds.specs.declared.Kind.{Kind}
-use Rattle.kinds.specs.declared.Kind.the-variants.{And2, Xor2, Buf}
+use Rattle.kinds.specs.declared.Kind.the-variants.{And2, Xor2, And3, Xor3, Maj, Mux, AndN, OrN, NandN, NorN, XorN, XnorN, Buf, Dff, Lut}
 use Rattle.kinds.specs.declared.Family.{Family}
 use Rattle.kinds.specs.declared.Family.the-variants.{And, Xor}
 use Rattle.model.specs.Signal.{Ref, rzero, rnode, rinput, ref, isInverted, fromVar}
-use Rattle.model.specs.Gate.{Gate, Net, noGate, gateAt, size, fanin}
+use Rattle.model.specs.Gate.{Gate, Net, noGate, gateAt, size, fanin, isDff}
 use Rattle.model.specs.Normal.{gateOf}
 use Rattle.model.specs.Network.{has, canonical, cleanup, topoSort}
 
@@ -298,3 +298,31 @@ anyRepeats (g ∷ gs) = takes And g && repeats (g .ins) || anyRepeats gs
 -- share_logic: flatten, then factor
 unfoldable pub shareLogic : Net → ℕ → Net
 shareLogic N limit = factorNary (flattenNary N limit)
+
+-- ---- what demand 3 says of the result
+
+-- "inputs less one for And and Xor, one for the rest", of the combinational gates
+unfoldable pub weight : Gate → ℕ
+weight g = cond (inside And g || inside Xor g) (length (g .ins) - 1) (bit (not (isDff g)))
+
+unfoldable pub weights : List Gate → ℕ
+weights [] = 0
+weights (g ∷ gs) = weight g + weights gs
+
+-- the kinds that are left: And and Xor with two inputs, and those that are neither n-ary nor copies
+abbrev pub isSimple : Kind → Bool
+isSimple And2 = true
+isSimple Xor2 = true
+isSimple And3 = false
+isSimple Xor3 = false
+isSimple Maj = true
+isSimple Mux = true
+isSimple AndN = false
+isSimple OrN = false
+isSimple NandN = false
+isSimple NorN = false
+isSimple XorN = false
+isSimple XnorN = false
+isSimple Buf = false
+isSimple Dff = true
+isSimple Lut = true
