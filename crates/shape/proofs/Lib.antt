@@ -19,6 +19,7 @@ pub mod FactoringSteps
 pub mod FactoringEnds
 pub mod FactoringSound
 pub mod FactoringGrown
+pub mod FactoringRank
 pub mod Walks
 pub mod Accepted
 pub mod Shaped
