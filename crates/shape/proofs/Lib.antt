@@ -20,6 +20,7 @@ pub mod FactoringEnds
 pub mod FactoringSound
 pub mod FactoringGrown
 pub mod FactoringRank
+pub mod FactoringPass
 pub mod Walks
 pub mod Accepted
 pub mod Shaped
