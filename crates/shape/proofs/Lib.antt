@@ -12,6 +12,7 @@ pub mod DedupNormal
 pub mod DedupPlace
 pub mod DedupSweep
 pub mod Dedup
+pub mod Flatten
 pub mod FactoringLists
 pub mod FactoringFuel
 pub mod FactoringBest
