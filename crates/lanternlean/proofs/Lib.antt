@@ -1,4 +1,3 @@
-pub mod Entering
 pub mod Working
 pub mod Merging
 pub mod Mappings

@@ -14,6 +14,7 @@ use Rattle.model.specs.Gate.{Net, size, isTopoSorted}
 use Rattle.model.specs.Image.{refusalOf, sortedRefusalOf, netOf, imageOf}
 use Rattle.model.specs.Answers.{Outcome, refused, written, inRoom, unless}
 use Rattle.model.specs.Network.{dedupWith, dedupMap, mappingOf}
+use Rattle.shape.proofs.Accepted.{accepted-sorted}
 use Rattle.load.specs.Images.{Read}
 use Rattle.load.specs.declared.Loaded.{Loaded}
 use Rattle.load.specs.declared.Loaded.the-variants.{Refused, Network}
@@ -26,17 +27,7 @@ use Rattle.write.specs.Writing.{mappingIn, HeldMapped}
 use Rattle.dedup.specs.Lists.{normOf}
 use Rattle.dedup.specs.States.{Dedupable, Deduped}
 use Rattle.lanternlean.specs.Works.{dedupWork}
-use Rattle.lanternlean.proofs.Working.{refused-is, network-passes, network-is, network-holds, network-held}
-
--- not 7
-sorted-of : (img : List ℕ) → sortedRefusalOf img ≡ 0 → isTopoSorted (netOf img) ≡ true
-unfolding sortedRefusalOf
-sorted-of img e = go (eqb (refusalOf img) 0) refl (isTopoSorted (netOf img)) e
-  where
-    go : (b : Bool) → eqb (refusalOf img) 0 ≡ b → (t : Bool) → cond b (cond t 0 7) (refusalOf img) ≡ 0 → t ≡ true
-    go true q true z = refl
-    go true q false z = absurd (omega arith)
-    go false q t z = absurd (eqb-false (refusalOf img) 0 q z)
+use Rattle.load.proofs.Reads.{refused-is, network-passes, network-is, network-holds, network-held}
 
 module _ (can : Bool) (img l : List ℕ) (x : Loaded) (R : Read (sortedRefusalOf img) img l x) where
   pub dedup-refused : (out map : List ℕ) (n : ℕ) → x ≡ Refused n → Answered2 (dedupWork can img (length out) (length map)) out map (answers.Refused n) out map
@@ -53,7 +44,7 @@ module _ (can : Bool) (img l : List ℕ) (x : Loaded) (R : Read (sortedRefusalOf
     pub dedup-asks : (b : List ℕ) → 16384 ≤ length b → Dedupable l b c
     dedup-asks b h = record {
       held = network-held (sortedRefusalOf img) img l x R c q;
-      sorted = rw net-is (sorted-of img (network-passes (sortedRefusalOf img) img l x R c q));
+      sorted = rw net-is (accepted-sorted img (network-passes (sortedRefusalOf img) img l x R c q));
       long = h;
     }
 

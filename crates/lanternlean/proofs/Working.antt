@@ -1,55 +1,24 @@
--- The work of an entry: what `load_image` or `load_sorted` answered (k is the number that refuses), and what was written.
-use mathlib.Core.Path.{_≡_, refl, sym, ap, _∙_}
+-- The work of read and evaluate: what was loaded, and what was written.
+use mathlib.Core.Path.{_≡_}
 use mathlib.Core.List.{List, []}
-use Prim.Native.Nat.{ℕ, zero, suc, _≤_}
+use Prim.Native.Nat.{ℕ, _≤_}
 use native.Mathlib.Omega.{arith}
 use lib.ListN.{length}
-use borrow.Author.Tests.{ne-eqb}
 use Rattle.answers.specs.declared.Answer.{Answer}
 use Rattle.answers.specs.declared.Answer.the-variants as answers
 use Rattle.model.specs.Image.{refusalOf, sortedRefusalOf, netOf, imageOf}
-use Rattle.model.specs.Answers.{Outcome, refused, written, inRoom, unless}
+use Rattle.model.specs.Answers.{written, inRoom}
 use Rattle.model.specs.Entries.{cycleOutcome}
 use Rattle.shape.proofs.Accepted.{accepted-sorted}
-use Rattle.load.specs.Images.{countsOf, loadedAs, Read}
+use Rattle.load.specs.Images.{Read}
+use Rattle.load.proofs.Reads.{refused-is, network-passes, network-holds, network-held, network-is}
 use Rattle.load.specs.declared.Loaded.{Loaded}
 use Rattle.load.specs.declared.Loaded.the-variants.{Refused, Network}
-use Rattle.tables.specs.Holding.{networkOf, Held, Holds}
+use Rattle.tables.specs.Holding.{networkOf}
 use Rattle.tables.specs.Working.{Answered, Answered2}
 use Rattle.tables.specs.declared.counts.Counts.{Counts}
 use Rattle.evaluate.specs.Cycle.{Runs}
 use Rattle.lanternlean.specs.Works.{readWork, evaluateWork}
-
--- a number that refuses, and one that does not
-refused-by : (k n : ℕ) (c : Counts) → Refused n ≡ loadedAs k c → (o : Outcome) → unless k o ≡ refused n
-unfolding unless
-refused-by zero n c e o = let z : _≡_ {A = ℕ} 0 1 = cc in absurd (omega arith)
-refused-by (suc k) n c e o = let z : suc k ≡ n = cc in rw (ne-eqb (suc k) 0 (λ q. omega arith)) (ap refused z)
-
-passes-by : (k : ℕ) (c d : Counts) → Network d ≡ loadedAs k c → (k ≡ 0) × (d ≡ c)
-passes-by zero c d e = (refl, cc)
-passes-by (suc k) c d e = let z : _≡_ {A = ℕ} 0 1 = cc in absurd (omega arith)
-
-module _ (k : ℕ) (img l : List ℕ) (x : Loaded) (R : Read k img l x) where
-  pub refused-is : (n : ℕ) → x ≡ Refused n → (o : Outcome) → unless k o ≡ refused n
-  refused-is n q o = refused-by k n (countsOf img) (sym q ∙ R .answer) o
-
-  module _ (c : Counts) (q : x ≡ Network c) where
-    passes : (k ≡ 0) × (c ≡ countsOf img)
-    passes = passes-by k (countsOf img) c (sym q ∙ R .answer)
-
-    pub network-passes : k ≡ 0
-    network-passes = passes .0
-
-    pub network-holds : Holds l c (netOf img)
-    network-holds = rw (passes .1) (R .holds (passes .0))
-
-    pub network-held : Held l c
-    network-held = network-holds .held
-
-    pub network-is : (o : Outcome) → unless k o ≡ o
-    unfolding unless
-    network-is o = rw (passes .0)
 
 -- ---- read
 
@@ -79,7 +48,7 @@ module _ (img l : List ℕ) (x : Loaded) (R : Read (sortedRefusalOf img) img l x
     pub evaluate-runs : (t : List ℕ) → 16384 ≤ length t → Runs l t c
     evaluate-runs t h =
         let H = network-holds (sortedRefusalOf img) img l x R c q in
-        record { held = H .held; sorted = rw (H .net) (accepted-sorted img (passes (sortedRefusalOf img) img l x R c q .0)); room = omega arith }
+        record { held = H .held; sorted = rw (H .net) (accepted-sorted img (network-passes (sortedRefusalOf img) img l x R c q)); room = omega arith }
 
     pub evaluate-cycled : (r : Answer) (out′ st′ : List ℕ) → Answered2 (cycleOutcome (networkOf l c) ins st (length out)) out st r out′ st′
         → Answered2 (evaluateWork img ins st (length out)) out st r out′ st′

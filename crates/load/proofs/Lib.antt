@@ -1,3 +1,4 @@
 pub mod Walks
 pub mod Loads
 pub mod Accepting
+pub mod Reads

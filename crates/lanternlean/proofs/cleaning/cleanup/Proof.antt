@@ -1,7 +1,7 @@
 use borrow.Author.Needs.{needs}
 use Rattle.model.specs.Entries.{cleanupOutcome}
 use Rattle.lanternlean.specs.Works.{cleanupPass, cleanupWork}
-use Rattle.lanternlean.proofs.Entering.{enters, long-b, areas-lent, areas-both, same-back, kept-both2}
+use Rattle.tables.proofs.Entering.{enters, long-b, areas-lent, areas-both, same-back, kept-both2}
 use Rattle.lanternlean.proofs.cleaning.cleanup.Statement.{statement}
 use Rattle.lanternlean.proofs.cleaning.cleanup.Tie as tie
 

@@ -1,7 +1,7 @@
 -- 1, or the work on the parts, and both areas cleared.
 use Rattle.model.specs.Entries.{evaluateOutcome}
 use Rattle.lanternlean.specs.Works.{evaluateWork}
-use Rattle.lanternlean.proofs.Entering.{long-b, same-back, areas-both, kept-both2, enters}
+use Rattle.tables.proofs.Entering.{long-b, same-back, areas-both, kept-both2, enters}
 use borrow.Author.Needs.{needs}
 use Rattle.lanternlean.proofs.evaluation.evaluate.Statement.{statement}
 use Rattle.lanternlean.proofs.evaluation.evaluate.Tie as tie

@@ -1,4 +1,4 @@
-use Rattle.lanternlean.proofs.Entering.{enters, long-a, long-b, part-long, same-back, areas-both, kept-both2}
+use Rattle.tables.proofs.Entering.{enters, long-a, long-b, part-long, same-back, areas-both, kept-both2}
 use borrow.Author.Needs.{needs}
 use Rattle.lanternlean.proofs.merged.merged.Statement.{statement}
 use Rattle.lanternlean.proofs.merged.merged.Tie as tie

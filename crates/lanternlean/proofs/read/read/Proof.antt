@@ -1,7 +1,7 @@
-use Rattle.lanternlean.proofs.Entering.{same-back, areas-one, kept-one}
+use Rattle.tables.proofs.Entering.{same-back, areas-one, kept-one}
 use Rattle.model.specs.Entries.{readOutcome}
 use Rattle.lanternlean.specs.Works.{readWork}
-use Rattle.lanternlean.proofs.Entering.{enters}
+use Rattle.tables.proofs.Entering.{enters}
 use borrow.Author.Needs.{needs}
 use Rattle.lanternlean.proofs.read.read.Statement.{statement}
 use Rattle.lanternlean.proofs.read.read.Tie as tie

@@ -1,7 +1,7 @@
 use borrow.Author.Needs.{needs}
 use Rattle.model.specs.Entries.{sortOutcome}
 use Rattle.lanternlean.specs.Works.{sortPass, sortWork}
-use Rattle.lanternlean.proofs.Entering.{enters, long-b, areas-lent, areas-both, same-back, kept-both2}
+use Rattle.tables.proofs.Entering.{enters, long-b, areas-lent, areas-both, same-back, kept-both2}
 use Rattle.lanternlean.proofs.sort.sort.Statement.{statement}
 use Rattle.lanternlean.proofs.sort.sort.Tie as tie
 
