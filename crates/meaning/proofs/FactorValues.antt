@@ -5,7 +5,7 @@ use Prim.Native.Nat.{ℕ, zero, suc, _+_, _≤_, _<_}
 use native.Mathlib.Nat.{add-zero, le-refl}
 use native.Mathlib.Omega.{arith}
 use native.Mathlib.Decide.{ℕ-discrete}
-use mathlib.Core.Bool.{Bool, true, false, not, cond, _&&_, _||_}
+use mathlib.Core.Bool.{Bool, true, not, _&&_}
 use mathlib.Core.List.{List, [], _∷_, _++_, map}
 use lib.ListN.{length, getD, set, length-append}
 use lib.Dec.{eqb}
@@ -16,7 +16,7 @@ use Rattle.laws.proofs.Choices.{by-bool, clash}
 use Rattle.laws.proofs.Lists.{all-map, all-append, distinct-append}
 use Rattle.model.specs.Signal.{fromVar}
 use Rattle.model.specs.Network.{has}
-use Rattle.model.specs.Normal.{keep, without}
+use Rattle.model.specs.Normal.{without}
 use Rattle.model.specs.Sharing.{Pair, State, exclusiveSignals, factoring, giveBack, holds, joinRound, once, replaceIn, replacePair, retain, roundLeft, roundPairs, sharedSignals, takeOut}
 use Rattle.model.proofs.Lists.{by-keep, without-all, without-stays}
 use Rattle.shape.proofs.Members.{has-tail}

@@ -2,18 +2,18 @@
 use mathlib.Core.Path.{_≡_, refl, sym, ap, ap₂, _∙_}
 use Prim.Native.Nat.{ℕ, zero, suc, _-_, _/_, _≤_, _<_}
 use native.Mathlib.Omega.{arith}
-use mathlib.Core.Bool.{Bool, true, false, not, _&&_}
+use mathlib.Core.Bool.{Bool, true, false, not}
 use mathlib.Core.List.{List, [], _∷_, _++_, map}
 use lib.Dec.{ltb}
-use Rattle.kinds.specs.Kinds.{kindOf, isFlipFlop, inFamily}
+use Rattle.kinds.specs.Kinds.{kindOf, inFamily}
 use Rattle.kinds.specs.declared.Kind.{Kind}
 use Rattle.kinds.specs.declared.Kind.the-variants.{And2, Xor2, And3, Xor3, Maj, Mux, AndN, OrN, NandN, NorN, XorN, XnorN, Buf, Dff, Lut}
 use Rattle.kinds.specs.declared.Family.{Family}
 use Rattle.kinds.specs.declared.Family.the-variants.{And, Xor}
 use Rattle.laws.proofs.Bools.{true-false}
 use Rattle.laws.proofs.Choices.{by-bool}
-use Rattle.model.specs.Signal.{Ref, rzero, rnode, rinput, isInverted, flip, wordOf, refIx, ref, fromVar, remapOrder, remapRef}
-use Rattle.model.specs.Gate.{Gate, Net, Valid, isDff, remapGate, gateAt, size}
+use Rattle.model.specs.Signal.{Ref, rzero, rnode, rinput, flip, refIx, ref, fromVar, remapOrder, remapRef}
+use Rattle.model.specs.Gate.{Gate, Net, Valid, isDff, gateAt, size}
 use Rattle.model.specs.Evaluate.{valueOf, signalValue, gateValue, Consistent}
 use Rattle.model.specs.Sharing.{Pair, inside, pairGate, retain}
 use Rattle.model.proofs.Words.{word-parts, node-inv}
@@ -52,42 +52,34 @@ module _ (F : Monoid) (ρ : ℕ → Bool) where
 
 -- ---- its gates
 
--- a claim of a family's kinds
-by-family {ℓ} : (P : Kind → Family → Type ℓ) → P And2 And → P And3 And → P AndN And → P Xor2 Xor → P Xor3 Xor → P XorN Xor
-    → (k : Kind) (f : Family) → inFamily k f ≡ true → P k f
-by-family P a2 a3 an x2 x3 xn And2 And e = a2
-by-family P a2 a3 an x2 x3 xn And2 Xor e = true-false (sym e)
-by-family P a2 a3 an x2 x3 xn Xor2 And e = true-false (sym e)
-by-family P a2 a3 an x2 x3 xn Xor2 Xor e = x2
-by-family P a2 a3 an x2 x3 xn And3 And e = a3
-by-family P a2 a3 an x2 x3 xn And3 Xor e = true-false (sym e)
-by-family P a2 a3 an x2 x3 xn Xor3 And e = true-false (sym e)
-by-family P a2 a3 an x2 x3 xn Xor3 Xor e = x3
-by-family P a2 a3 an x2 x3 xn Maj f e = true-false (sym e)
-by-family P a2 a3 an x2 x3 xn Mux f e = true-false (sym e)
-by-family P a2 a3 an x2 x3 xn AndN And e = an
-by-family P a2 a3 an x2 x3 xn AndN Xor e = true-false (sym e)
-by-family P a2 a3 an x2 x3 xn OrN f e = true-false (sym e)
-by-family P a2 a3 an x2 x3 xn NandN f e = true-false (sym e)
-by-family P a2 a3 an x2 x3 xn NorN f e = true-false (sym e)
-by-family P a2 a3 an x2 x3 xn XorN And e = true-false (sym e)
-by-family P a2 a3 an x2 x3 xn XorN Xor e = xn
-by-family P a2 a3 an x2 x3 xn XnorN f e = true-false (sym e)
-by-family P a2 a3 an x2 x3 xn Buf f e = true-false (sym e)
-by-family P a2 a3 an x2 x3 xn Dff f e = true-false (sym e)
-by-family P a2 a3 an x2 x3 xn Lut f e = true-false (sym e)
-
-pub comb-of-family : (f : Family) (g : Gate) → inside f g ≡ true → isDff g ≡ false
-comb-of-family f g e = by-family (λ k f. isFlipFlop k ≡ false) refl refl refl refl refl refl (kindOf (g .kind)) f e
+value-of-kind : (k : Kind) (f : Family) (ρ : ℕ → Bool) (l : List ℕ) (t : ℕ) → inFamily k f ≡ true → valueOf k (map ρ l) t ≡ val (monoidOf f) ρ l
+unfolding valueOf
+value-of-kind And2 And ρ l t e = val-and ρ l
+value-of-kind And2 Xor ρ l t e = true-false (sym e)
+value-of-kind Xor2 And ρ l t e = true-false (sym e)
+value-of-kind Xor2 Xor ρ l t e = val-xor ρ l
+value-of-kind And3 And ρ l t e = val-and ρ l
+value-of-kind And3 Xor ρ l t e = true-false (sym e)
+value-of-kind Xor3 And ρ l t e = true-false (sym e)
+value-of-kind Xor3 Xor ρ l t e = val-xor ρ l
+value-of-kind Maj f ρ l t e = true-false (sym e)
+value-of-kind Mux f ρ l t e = true-false (sym e)
+value-of-kind AndN And ρ l t e = val-and ρ l
+value-of-kind AndN Xor ρ l t e = true-false (sym e)
+value-of-kind OrN f ρ l t e = true-false (sym e)
+value-of-kind NandN f ρ l t e = true-false (sym e)
+value-of-kind NorN f ρ l t e = true-false (sym e)
+value-of-kind XorN And ρ l t e = true-false (sym e)
+value-of-kind XorN Xor ρ l t e = val-xor ρ l
+value-of-kind XnorN f ρ l t e = true-false (sym e)
+value-of-kind Buf f ρ l t e = true-false (sym e)
+value-of-kind Dff f ρ l t e = true-false (sym e)
+value-of-kind Lut f ρ l t e = true-false (sym e)
 
 -- a gate of the family has the family's value of its inputs
 pub value-of-family : (f : Family) (i v : ℕ → Bool) (g : Gate) → inside f g ≡ true → gateValue i v g ≡ val (monoidOf f) (signalValue i v) (g .ins)
-unfolding gateValue valueOf
-value-of-family f i v g e =
-    let ρ = signalValue i v in
-    let l = g .ins in
-    by-family (λ k f. valueOf k (map ρ l) (g .table) ≡ val (monoidOf f) ρ l)
-    (val-and ρ l) (val-and ρ l) (val-and ρ l) (val-xor ρ l) (val-xor ρ l) (val-xor ρ l) (kindOf (g .kind)) f e
+unfolding gateValue
+value-of-family f i v g e = value-of-kind (kindOf (g .kind)) f (signalValue i v) (g .ins) (g .table) e
 
 pub pair-inside : (f : Family) (p : Pair) → inside f (pairGate f p) ≡ true
 unfolding kindOf
