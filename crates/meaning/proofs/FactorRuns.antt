@@ -18,24 +18,23 @@ use Rattle.model.specs.Signal.{ref, fromVar}
 use Rattle.model.specs.Gate.{Gate, Net, Valid, isDff, noGate, gateAt, size, isTopoSorted}
 use Rattle.model.specs.Normal.{gateOf}
 use Rattle.model.specs.Network.{topoSort}
-use Rattle.model.specs.Evaluate.{valueOf, signalValue, gateValue, shows, Consistent, evaluate, Eval, Solves, runBy, run, allZero, runFromZero}
+use Rattle.model.specs.Evaluate.{valueOf, signalValue, gateValue, shows, Consistent, Eval, Solves, runBy, run, allZero, runFromZero}
 use Rattle.model.specs.Sharing.{Pair, factorGates, grown, inside, pairGate, passRefusal, replaced, taken, takes}
 use Rattle.model.proofs.Words.{node-ref}
-use Rattle.model.proofs.Names.{Names, sorted, wired-ins}
-use Rattle.model.proofs.Forward.{shows-comb, evaluate-sorted}
+use Rattle.model.proofs.Names.{Names, wired-ins}
+use Rattle.model.proofs.Forward.{shows-comb}
 use Rattle.shape.specs.Room.{roomOf}
-use Rattle.shape.proofs.Sort.{sorted-ranked, sort-valid, sort-sorted}
+use Rattle.shape.proofs.Sort.{sort-valid, sort-sorted}
 use Rattle.shape.proofs.FactoringEnds.{One}
 use Rattle.shape.proofs.FactoringGrown.{ended, grown-nodes, ended-one, length-replaced, size-grown, grown-sound, valid-grown}
 use Rattle.shape.proofs.FactoringPass.{pass-room, pass-sorts}
 use Rattle.shape.proofs.Flatten.{inside-comb}
 use Rattle.meaning.proofs.NaryValues.{Monoid, val}
 use Rattle.meaning.proofs.Valuations.{value-node}
-use Rattle.meaning.proofs.Simulation.{Carries, same-run}
 use Rattle.meaning.proofs.SortRuns.{sort-solves, sort-runs}
 use Rattle.meaning.proofs.DedupRuns.{canonical-runs}
 use Rattle.meaning.proofs.Tidy.{Tidy}
-use Rattle.meaning.proofs.FamilyValues.{monoidOf, unit-right, value-of-family, value-of-pair, pair-inside, numbers-carry, numbers-related}
+use Rattle.meaning.proofs.FamilyValues.{monoidOf, unit-right, value-of-family, value-of-pair, pair-inside, numbers-run}
 use Rattle.meaning.proofs.FactorValues.{Built, Low, Valued, factoring-valued}
 
 -- ---- the gates that a pass takes
@@ -177,21 +176,12 @@ module _ (f : Family) (N : Net) (ok : Valid N) (tidy : Tidy f N) (room : length 
   unfolding grown
   same-outs = refl
 
-  small : size G < 1073741824
-  small = let few = valid .nodes-few in omega arith
-
-  more : size N ≤ size G
-  more = omega (arith, size-grown f N)
-
-  -- THE GROWN NETWORK CARRIES every old node at its number
-  pub grown-carries : Carries N G fromVar (λ n. n < size N)
-  grown-carries = numbers-carry N G ok small more same-outs (λ n h e i st v c. old-value i st v c n h e) old-cell
-
-  -- and by each of its valuations it has the same outputs in every cycle, from any state
+  -- every old node keeps its number and its value: the same outputs in every cycle, from any state, by any valuation
   pub grown-runs : isTopoSorted N ≡ true → (ev : Eval) → Solves G ev → (st : ℕ → Bool) (is : List (List Bool)) → run N st is ≡ runBy G ev st is
-  grown-runs srt ev s st is =
-      same-run N G fromVar (λ n. n < size N) grown-carries (sorted-ranked N (sorted N srt)) (evaluate N) ev (evaluate-sorted N srt) s is st st
-      (numbers-related N G ok small more same-outs (λ n h e i st v c. old-value i st v c n h e) old-cell st)
+  grown-runs =
+      let few = valid .nodes-few in
+      let more = size-grown f N in
+      numbers-run N G ok (omega arith) (omega arith) same-outs (λ n h e i st v c. old-value i st v c n h e) old-cell
 
 -- ---- THE SAME OUTPUTS in every cycle
 

@@ -5,7 +5,7 @@ use native.Mathlib.Omega.{arith}
 use mathlib.Core.Bool.{Bool, true, false, not}
 use mathlib.Core.List.{List, [], _∷_, _++_, map}
 use lib.Dec.{ltb}
-use Rattle.kinds.specs.Kinds.{kindOf, inFamily}
+use Rattle.kinds.specs.Kinds.{kindOf, inFamily, wideOf}
 use Rattle.kinds.specs.declared.Kind.{Kind}
 use Rattle.kinds.specs.declared.Kind.the-variants.{And2, Xor2, And3, Xor3, Maj, Mux, AndN, OrN, NandN, NorN, XorN, XnorN, Buf, Dff, Lut}
 use Rattle.kinds.specs.declared.Family.{Family}
@@ -13,14 +13,17 @@ use Rattle.kinds.specs.declared.Family.the-variants.{And, Xor}
 use Rattle.laws.proofs.Bools.{true-false}
 use Rattle.laws.proofs.Choices.{by-bool}
 use Rattle.model.specs.Signal.{Ref, rzero, rnode, rinput, flip, refIx, ref, fromVar, remapOrder, remapRef}
-use Rattle.model.specs.Gate.{Gate, Net, Valid, isDff, gateAt, size}
-use Rattle.model.specs.Evaluate.{valueOf, signalValue, gateValue, Consistent}
+use Rattle.model.specs.Gate.{Gate, Net, Valid, isDff, gateAt, size, isTopoSorted}
+use Rattle.model.specs.Normal.{gateOf}
+use Rattle.model.specs.Evaluate.{valueOf, signalValue, gateValue, Consistent, evaluate, Eval, Solves, runBy, run, allZero}
 use Rattle.model.specs.Sharing.{Pair, inside, pairGate, retain}
 use Rattle.model.proofs.Words.{word-parts, node-inv}
-use Rattle.model.proofs.Names.{wired-ins, wired-out}
+use Rattle.model.proofs.Names.{sorted, wired-ins, wired-out}
+use Rattle.model.proofs.Forward.{evaluate-sorted}
+use Rattle.shape.proofs.Sort.{sorted-ranked}
 use Rattle.meaning.proofs.NaryValues.{Monoid, andF, xorF, val, val-and, val-xor}
 use Rattle.meaning.proofs.Valuations.{value-node}
-use Rattle.meaning.proofs.Simulation.{kept, Carries, Related}
+use Rattle.meaning.proofs.Simulation.{kept, Carries, same-run}
 
 -- ---- a family's value of a list of signals
 
@@ -81,6 +84,11 @@ pub value-of-family : (f : Family) (i v : ℕ → Bool) (g : Gate) → inside f 
 unfolding gateValue
 value-of-family f i v g e = value-of-kind (kindOf (g .kind)) f (signalValue i v) (g .ins) (g .table) e
 
+pub wide-inside : (f : Family) (l : List ℕ) → inside f (gateOf (wideOf f) l) ≡ true
+unfolding kindOf
+wide-inside And l = refl
+wide-inside Xor l = refl
+
 pub pair-inside : (f : Family) (p : Pair) → inside f (pairGate f p) ≡ true
 unfolding kindOf
 pair-inside And p = refl
@@ -121,7 +129,7 @@ remaps-same (s ∷ l) = ap₂ _∷_ (remap-same s) (remaps-same l)
 module _ (N N′ : Net) (ok : Valid N) (small : size N′ < 1073741824) (more : size N ≤ size N′) (outs : N′ .outs ≡ N .outs)
     (comb : (n : ℕ) → n < size N → isDff (gateAt N n) ≡ false → (i st v : ℕ → Bool) → Consistent N′ i st v → v n ≡ gateValue i v (gateAt N n))
     (cell : (n : ℕ) → n < size N → isDff (gateAt N n) ≡ true → gateAt N′ n ≡ gateAt N n) where
-  pub numbers-carry : Carries N N′ fromVar (λ n. n < size N)
+  numbers-carry : Carries N N′ fromVar (λ n. n < size N)
   numbers-carry = record {
     small = small;
     inside = λ n h. h;
@@ -135,6 +143,8 @@ module _ (N N′ : Net) (ok : Valid N) (small : size N′ < 1073741824) (more : 
     outsIn = wired-out N (ok .signals);
   }
 
-  -- a state is related to itself
-  pub numbers-related : (st : ℕ → Bool) → Related N fromVar (λ n. n < size N) st st
-  numbers-related st n h e = value-node (λ k. false) st n (omega arith)
+  -- THE SAME OUTPUTS in every cycle from any state, by any valuation of the new network
+  pub numbers-run : isTopoSorted N ≡ true → (ev : Eval) → Solves N′ ev → (st : ℕ → Bool) (is : List (List Bool)) → run N st is ≡ runBy N′ ev st is
+  numbers-run srt ev s st is =
+      same-run N N′ fromVar (λ n. n < size N) numbers-carry (sorted-ranked N (sorted N srt)) (evaluate N) ev (evaluate-sorted N srt) s is st st
+      (λ n h e. value-node allZero st n (omega arith))
