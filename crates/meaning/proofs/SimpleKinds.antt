@@ -1,0 +1,319 @@
+-- Which kinds normalization makes, and what a gate costs: it costs no more once it is normalized.
+use mathlib.Core.Path.{_≡_, refl, sym, ap, ap₂, _∙_, subst}
+use mathlib.Core.Logic.{_⊎_, inl, inr}
+use Prim.Native.Nat.{ℕ, _-_, _≤_, _<_}
+use native.Mathlib.Omega.{arith}
+use mathlib.Core.Bool.{Bool, true, false, not, cond, _&&_, _||_}
+use mathlib.Core.List.{List, [], _∷_, map}
+use lib.ListN.{length, length-map}
+use lib.Dec.{eqb, ltb}
+use borrow.Author.Tests.{eqb-true, ltb-true}
+use Rattle.kinds.specs.Kinds.{kindOf, codeOf, inFamily, isFlipFlop}
+use Rattle.kinds.proofs.Codes.{kind-code}
+use Rattle.kinds.specs.declared.Kind.{Kind}
+use Rattle.kinds.specs.declared.Kind.the-variants.{And2, Xor2, And3, Xor3, Maj, Mux, AndN, OrN, NandN, NorN, XorN, XnorN, Buf, Dff, Lut}
+use Rattle.kinds.specs.declared.Family.{Family}
+use Rattle.kinds.specs.declared.Family.the-variants.{And, Xor}
+use Rattle.laws.specs.Bools.{bit}
+use Rattle.laws.specs.Lists.{All}
+use Rattle.laws.proofs.Bools.{true-false, and-left, and-right, or-true}
+use Rattle.laws.proofs.Lists.{all-of, by-one, by-two, by-three}
+use Rattle.laws.proofs.Choices.{by-bool, by-test, clash}
+use Rattle.model.specs.Signal.{neg, isInverted, remapOrder}
+use Rattle.model.specs.Gate.{Gate, Net, Valid, noGate, isDff, remapGate, fitsKind, shaped}
+use Rattle.model.specs.Normal.{Norm, copied, made, gateOf, made2, made3, andSorted, makeAnd, xorSorted, makeXor, and3Sorted, makeAnd3, xor3Sorted, makeXor3, muxPlain, muxSelect, makeMux, majPlain, majSorted, makeMaj, makeDff, opposed, andSome, andWide, andTidy, makeAndN, xorSome, makeXorN, normalK, makeCanonical, noInv, proper, canonicalK, isCanonical}
+use Rattle.model.specs.Network.{canonical}
+use Rattle.model.specs.Sharing.{inside, weight, isSimple}
+use Rattle.shape.proofs.Sums.{bit-le}
+use Rattle.shape.proofs.DedupNormal.{canonical-law, made-few, made-dff}
+use Rattle.meaning.proofs.Shapes.{gateWith, by-shape}
+use Rattle.meaning.proofs.Canonical.{Canon, canon-of-canonical}
+use Rattle.meaning.proofs.TidyCanonical.{canonical-all}
+
+-- the n-ary kind of a family that a kind's normal forms belong to, if they belong to one
+abbrev pub nary : Kind → Kind
+nary And2 = AndN
+nary And3 = AndN
+nary AndN = AndN
+nary OrN = AndN
+nary NandN = AndN
+nary NorN = AndN
+nary Xor2 = XorN
+nary Xor3 = XorN
+nary XorN = XorN
+nary XnorN = XorN
+nary Maj = Maj
+nary Mux = Mux
+nary Buf = Buf
+nary Dff = Dff
+nary Lut = Lut
+
+abbrev pub leads : Gate → Family → Bool
+leads g f = inFamily (nary (kindOf (g .kind))) f
+
+-- ---- the kinds of normal forms
+
+record Of (q : Kind → Type 0) (nm : Norm) : Type 0 where
+  of : (h : Gate) (z : Bool) → nm ≡ made h z → q (kindOf (h .kind))
+
+module _ (q : Kind → Type 0) where
+  copy-of : (s : ℕ) → Of q (copied s)
+  copy-of s = record { of = λ h z e. let z : _≡_ {A = ℕ} 0 1 = cc in absurd (omega arith) }
+
+  gate-of : (k : Kind) (l : List ℕ) (z : Bool) → q k → Of q (made (gateOf k l) z)
+  gate-of k l z c = record { of = λ h y e. let r : gateOf k l ≡ h = cc in subst (λ (h : Gate). q (kindOf (h .kind))) r (rw (kind-code k) c) }
+
+  either : (t : Bool) {a b : Norm} → Of q a → Of q b → Of q (cond t a b)
+  either t x y = by-test (Of q) t (λ e. x) (λ e. y)
+
+  module _ (two : q And2) where
+    andSorted-of : (x y : ℕ) (z : Bool) → Of q (andSorted x y z)
+    unfolding andSorted made2
+    andSorted-of x y z = either (eqb x 0 || eqb x (neg y)) (copy-of _) (either (eqb x 1 || eqb x y) (copy-of _) (gate-of And2 _ z two))
+
+    and-of : (a b : ℕ) (z : Bool) → Of q (makeAnd a b z)
+    unfolding makeAnd
+    and-of a b z = andSorted-of _ _ z
+
+    module _ (three : q Maj) where
+      majPlain-of : (x y w : ℕ) (z : Bool) → Of q (majPlain x y w z)
+      unfolding majPlain made3
+      majPlain-of x y w z = either (eqb x 0) (and-of y w z) (gate-of Maj _ z three)
+
+      majSorted-of : (x y w : ℕ) (z : Bool) → Of q (majSorted x y w z)
+      unfolding majSorted
+      majSorted-of x y w z =
+          either (eqb x (neg y) || eqb y w) (copy-of _)
+          (either (eqb y (neg w) || eqb x y) (copy-of _)
+          (either (isInverted x) (majPlain-of (neg x) (neg y) (neg w) (not z)) (majPlain-of x y w z)))
+
+      maj-of : (a b c : ℕ) (z : Bool) → Of q (makeMaj a b c z)
+      unfolding makeMaj
+      maj-of a b c z = majSorted-of _ _ _ z
+
+    module _ (three : q And3) where
+      and3Sorted-of : (x y w : ℕ) (z : Bool) → Of q (and3Sorted x y w z)
+      unfolding and3Sorted made3
+      and3Sorted-of x y w z =
+          either (eqb x 0 || eqb x (neg y) || eqb w (neg y)) (copy-of _)
+          (either (eqb x 1 || eqb x y) (and-of y w z)
+          (either (eqb y w) (and-of x y z) (gate-of And3 _ z three)))
+
+      and3-of : (a b c : ℕ) (z : Bool) → Of q (makeAnd3 a b c z)
+      unfolding makeAnd3
+      and3-of a b c z = and3Sorted-of _ _ _ z
+
+      andSome-of : q AndN → (x : ℕ) (l : List ℕ) (z : Bool) → Of q (andSome x l z)
+      unfolding andSome
+      andSome-of n x [] z = copy-of _
+      andSome-of n x (y ∷ []) z = and-of x y z
+      andSome-of n x (y ∷ w ∷ []) z = and3-of x y w z
+      andSome-of n x (y ∷ w ∷ u ∷ l) z = gate-of AndN _ z n
+
+      andWide-of : q AndN → (l : List ℕ) (z : Bool) → Of q (andWide l z)
+      unfolding andWide
+      andWide-of n [] z = copy-of _
+      andWide-of n (x ∷ l) z = either (eqb x 0) (copy-of _) (andSome-of n x l z)
+
+      andTidy-of : q AndN → (l : List ℕ) (z : Bool) → Of q (andTidy l z)
+      unfolding andTidy
+      andTidy-of n l z = either (opposed l) (copy-of _) (andWide-of n l z)
+
+      andN-of : q AndN → (l : List ℕ) (z : Bool) → Of q (makeAndN l z)
+      unfolding makeAndN
+      andN-of n l z = andTidy-of n _ z
+
+  module _ (two : q Xor2) where
+    xorSorted-of : (x y : ℕ) (z : Bool) → Of q (xorSorted x y z)
+    unfolding xorSorted made2
+    xorSorted-of x y z = either (eqb x 0) (copy-of _) (either (eqb x y) (copy-of _) (gate-of Xor2 _ z two))
+
+    xor-of : (a b : ℕ) (z : Bool) → Of q (makeXor a b z)
+    unfolding makeXor
+    xor-of a b z = xorSorted-of _ _ _
+
+    module _ (three : q Xor3) where
+      xor3Sorted-of : (x y w : ℕ) (z : Bool) → Of q (xor3Sorted x y w z)
+      unfolding xor3Sorted made3
+      xor3Sorted-of x y w z = either (eqb x 0) (xor-of y w z) (either (eqb x y) (copy-of _) (either (eqb y w) (copy-of _) (gate-of Xor3 _ z three)))
+
+      xor3-of : (a b c : ℕ) (z : Bool) → Of q (makeXor3 a b c z)
+      unfolding makeXor3
+      xor3-of a b c z = xor3Sorted-of _ _ _ _
+
+      xorSome-of : q XorN → (l : List ℕ) (z : Bool) → Of q (xorSome l z)
+      unfolding xorSome
+      xorSome-of n [] z = copy-of _
+      xorSome-of n (x ∷ []) z = copy-of _
+      xorSome-of n (x ∷ y ∷ []) z = xor-of x y z
+      xorSome-of n (x ∷ y ∷ w ∷ []) z = xor3-of x y w z
+      xorSome-of n (x ∷ y ∷ w ∷ u ∷ l) z = gate-of XorN _ z n
+
+      xorN-of : q XorN → (l : List ℕ) (z : Bool) → Of q (makeXorN l z)
+      unfolding makeXorN
+      xorN-of n l z = xorSome-of n _ _
+
+  module _ (and : q And2) (xor : q Xor2) (mux : q Mux) where
+    muxPlain-of : (s a b : ℕ) (z : Bool) → Of q (muxPlain s a b z)
+    unfolding muxPlain made3
+    muxPlain-of s a b z =
+        either (eqb s 0 || eqb a b) (copy-of _)
+        (either (eqb s a || eqb a 1) (and-of and (neg s) (neg b) (not z))
+        (either (eqb s (neg a) || eqb a 0) (and-of and (neg s) b z)
+        (either (eqb s b || eqb b 0) (and-of and s a z)
+        (either (eqb s (neg b) || eqb b 1) (and-of and s (neg a) (not z))
+        (either (eqb a (neg b)) (xor-of xor s b z)
+        (gate-of Mux _ z mux))))))
+
+    muxSelect-of : (s a b : ℕ) (z : Bool) → Of q (muxSelect s a b z)
+    unfolding muxSelect
+    muxSelect-of s a b z = either (isInverted b) (muxPlain-of s (neg a) (neg b) (not z)) (muxPlain-of s a b z)
+
+    mux-of : (s a b : ℕ) (z : Bool) → Of q (makeMux s a b z)
+    unfolding makeMux
+    mux-of s a b z = either (isInverted s) (muxSelect-of (neg s) b a z) (muxSelect-of s a b z)
+
+  dff-of : q Dff → (d en res : ℕ) (z : Bool) → Of q (makeDff d en res z)
+  unfolding makeDff made3
+  dff-of c d en res z = either (eqb d 0 || eqb en 0 || eqb res 1) (copy-of _) (gate-of Dff _ z c)
+
+-- a gate of kind j made of one of kind k: of the same family, or both of simple kinds
+pub data From (k j : Kind) : Type 0 where
+  alike : nary j ≡ nary k → (inFamily (nary k) And || inFamily (nary k) Xor) ≡ true → From k j
+  simple : isSimple k ≡ true → isSimple j ≡ true → From k j
+
+kind-from : (k : Kind) (l : List ℕ) (t : ℕ) → fitsKind k (length l) ≡ true → Of (From k) (makeCanonical (gateWith k l t))
+unfolding makeCanonical normalK kindOf
+kind-from And2 l t e = by-two (λ l. Of (From And2) (makeCanonical (gateWith And2 l t))) l e (λ a b. and-of (From And2) (alike refl refl) a b false)
+kind-from And3 l t e = by-three (λ l. Of (From And3) (makeCanonical (gateWith And3 l t))) l e (λ a b c. and3-of (From And3) (alike refl refl) (alike refl refl) a b c false)
+kind-from AndN l t e = andN-of (From AndN) (alike refl refl) (alike refl refl) (alike refl refl) l false
+kind-from OrN l t e = andN-of (From OrN) (alike refl refl) (alike refl refl) (alike refl refl) (map neg l) true
+kind-from NandN l t e = andN-of (From NandN) (alike refl refl) (alike refl refl) (alike refl refl) l true
+kind-from NorN l t e = andN-of (From NorN) (alike refl refl) (alike refl refl) (alike refl refl) (map neg l) false
+kind-from Xor2 l t e = by-two (λ l. Of (From Xor2) (makeCanonical (gateWith Xor2 l t))) l e (λ a b. xor-of (From Xor2) (alike refl refl) a b false)
+kind-from Xor3 l t e = by-three (λ l. Of (From Xor3) (makeCanonical (gateWith Xor3 l t))) l e (λ a b c. xor3-of (From Xor3) (alike refl refl) (alike refl refl) a b c false)
+kind-from XorN l t e = xorN-of (From XorN) (alike refl refl) (alike refl refl) (alike refl refl) l false
+kind-from XnorN l t e = xorN-of (From XnorN) (alike refl refl) (alike refl refl) (alike refl refl) l true
+kind-from Maj l t e = by-three (λ l. Of (From Maj) (makeCanonical (gateWith Maj l t))) l e (λ a b c. maj-of (From Maj) (simple refl refl) (simple refl refl) a b c false)
+kind-from Mux l t e = by-three (λ l. Of (From Mux) (makeCanonical (gateWith Mux l t))) l e (λ a b c. mux-of (From Mux) (simple refl refl) (simple refl refl) (simple refl refl) a b c false)
+kind-from Buf l t e = by-one (λ l. Of (From Buf) (makeCanonical (gateWith Buf l t))) l e (λ a. copy-of (From Buf) a)
+kind-from Dff l t e = by-three (λ l. Of (From Dff) (makeCanonical (gateWith Dff l t))) l e (λ a b c. dff-of (From Dff) (simple refl refl) a b c false)
+kind-from Lut l t e = record { of = λ h z q. let r : gateWith Lut l t ≡ h = cc in subst (λ (h : Gate). From Lut (kindOf (h .kind))) r (simple refl refl) }
+
+-- THE KIND of a normal form
+pub normal-from : (g h : Gate) (z : Bool) → shaped g ≡ true → makeCanonical g ≡ made h z → From (kindOf (g .kind)) (kindOf (h .kind))
+normal-from g h z e =
+    by-shape (λ (g : Gate). makeCanonical g ≡ made h z → From (kindOf (g .kind)) (kindOf (h .kind))) g e
+    (λ k l t s b. rw (kind-code k) (kind-from k l t s .of h z))
+
+-- ---- what a gate costs: inputs less one where it leads to a family, nothing for a Buf or a flip-flop, one for the rest
+
+unfoldable pub cost : Gate → ℕ
+cost g = cond (leads g And || leads g Xor) (length (g .ins) - 1) (bit (isSimple (kindOf (g .kind)) && not (isDff g)))
+
+leads-some : (f : Family) (g : Gate) → leads g f ≡ true → (leads g And || leads g Xor) ≡ true
+leads-some And g e = rw e
+leads-some Xor g e = rw e (or-true (leads g And))
+
+cost-some : (g : Gate) → (leads g And || leads g Xor) ≡ true → cost g ≡ length (g .ins) - 1
+unfolding cost
+cost-some g e = rw e
+
+pub cost-leads : (f : Family) (g : Gate) → leads g f ≡ true → cost g ≡ length (g .ins) - 1
+cost-leads f g e = cost-some g (leads-some f g e)
+
+kind-cost : (k : Kind) (l : List ℕ) (t : ℕ) → fitsKind k (length l) ≡ true → isSimple k ≡ true → cost (gateWith k l t) ≡ bit (not (isFlipFlop k))
+unfolding cost kindOf
+kind-cost And2 l t e s = let n = eqb-true (length l) 2 e in omega arith
+kind-cost Xor2 l t e s = let n = eqb-true (length l) 2 e in omega arith
+kind-cost Maj l t e s = refl
+kind-cost Mux l t e s = refl
+kind-cost Dff l t e s = refl
+kind-cost Lut l t e s = refl
+kind-cost And3 l t e s = true-false (sym s)
+kind-cost Xor3 l t e s = true-false (sym s)
+kind-cost AndN l t e s = true-false (sym s)
+kind-cost OrN l t e s = true-false (sym s)
+kind-cost NandN l t e s = true-false (sym s)
+kind-cost NorN l t e s = true-false (sym s)
+kind-cost XorN l t e s = true-false (sym s)
+kind-cost XnorN l t e s = true-false (sym s)
+kind-cost Buf l t e s = true-false (sym s)
+
+-- a combinational gate of a simple kind costs one
+pub simple-cost : (g : Gate) → shaped g ≡ true → isSimple (kindOf (g .kind)) ≡ true → cost g ≡ bit (not (isDff g))
+simple-cost g e =
+    by-shape (λ (g : Gate). isSimple (kindOf (g .kind)) ≡ true → cost g ≡ bit (not (isDff g))) g e (λ k l t s b. rw (kind-code k) (kind-cost k l t s))
+
+-- so it has two inputs where it is of a family
+simple-two : (f : Family) (g : Gate) → shaped g ≡ true → isSimple (kindOf (g .kind)) ≡ true → leads g f ≡ true → length (g .ins) ≤ 2
+simple-two f g e s l = omega (arith, simple-cost g e s, cost-leads f g l, bit-le (not (isDff g)))
+
+pub cost-renamed : (τ : ℕ → ℕ) (g : Gate) → cost (remapGate τ g) ≡ cost g
+unfolding cost
+cost-renamed τ g = rw (length-map (g .ins) (remapOrder τ))
+
+-- A NORMAL FORM COSTS NO MORE
+pub normal-cost : (g h : Gate) (z : Bool) → shaped g ≡ true → makeCanonical g ≡ made h z → cost h ≤ cost g
+normal-cost g h z e q = go (normal-from g h z e q)
+  where
+    c : Canon (made h z)
+    c = subst Canon q (canon-of-canonical g e)
+
+    go : From (kindOf (g .kind)) (kindOf (h .kind)) → cost h ≤ cost g
+    go (alike a t) = omega (arith, made-few makeCanonical canonical-law g e h z q, cost-some g t, cost-some h (rw a t))
+    go (simple s r) = omega (arith, simple-cost g e s, simple-cost h (c .fits) r, ap (λ b. bit (not b)) (made-dff makeCanonical canonical-law g e h z q))
+
+-- ---- the kinds of a canonical network
+
+-- neither Or, Nand, Nor, Xnor nor Buf: a simple kind, or a gate of a family with three or more inputs
+pub record Left (g : Gate) : Type 0 where
+  pub same : (f : Family) → leads g f ≡ inside f g
+  pub split : (isSimple (kindOf (g .kind)) ≡ true) ⊎ ((f : Family) × (inside f g ≡ true) × (2 < length (g .ins)))
+
+by-family : (P : Family → Type 0) → P And → P Xor → (f : Family) → P f
+by-family P a x And = a
+by-family P a x Xor = x
+
+left-of : (k : Kind) (l : List ℕ) (t : ℕ) → (leads (gateWith k l t) And ≡ inside And (gateWith k l t)) → (leads (gateWith k l t) Xor ≡ inside Xor (gateWith k l t))
+    → (isSimple (kindOf (codeOf k)) ≡ true) ⊎ ((f : Family) × (inside f (gateWith k l t) ≡ true) × (2 < length l)) → Left (gateWith k l t)
+left-of k l t a x s = record { same = by-family (λ f. leads (gateWith k l t) f ≡ inside f (gateWith k l t)) a x; split = s }
+
+kind-left : (k : Kind) (l : List ℕ) (t : ℕ) → fitsKind k (length l) ≡ true → canonicalK k l ≡ true → Left (gateWith k l t)
+unfolding kindOf canonicalK
+kind-left And2 l t e c = left-of And2 l t refl refl (inl refl)
+kind-left Xor2 l t e c = left-of Xor2 l t refl refl (inl refl)
+kind-left Maj l t e c = left-of Maj l t refl refl (inl refl)
+kind-left Mux l t e c = left-of Mux l t refl refl (inl refl)
+kind-left Dff l t e c = left-of Dff l t refl refl (inl refl)
+kind-left Lut l t e c = left-of Lut l t refl refl (inl refl)
+kind-left And3 l t e c = left-of And3 l t refl refl (inr (And, refl, (let n = eqb-true (length l) 3 e in omega arith)))
+kind-left Xor3 l t e c = left-of Xor3 l t refl refl (inr (Xor, refl, (let n = eqb-true (length l) 3 e in omega arith)))
+kind-left AndN l t e c = left-of AndN l t refl refl (inr (And, refl, (let n = ltb-true 3 (length l) (and-right (proper l) (ltb 3 (length l)) c) in omega arith)))
+kind-left XorN l t e c =
+    left-of XorN l t refl refl (inr (Xor, refl, (let n = ltb-true 3 (length l) (and-right (proper l) (ltb 3 (length l)) (and-left (proper l && ltb 3 (length l)) (noInv l) c)) in omega arith)))
+kind-left OrN l t e c = true-false (sym c)
+kind-left NandN l t e c = true-false (sym c)
+kind-left NorN l t e c = true-false (sym c)
+kind-left XnorN l t e c = true-false (sym c)
+kind-left Buf l t e c = true-false (sym c)
+
+gate-left : (g : Gate) → shaped g ≡ true → isCanonical g ≡ true → Left g
+unfolding isCanonical
+gate-left g e = by-shape (λ (g : Gate). isCanonical g ≡ true → Left g) g e (λ k l t s b. rw (kind-code k) (kind-left k l t s))
+
+pub canonical-left : (N : Net) → Valid N → All Left (canonical N .nodes)
+unfolding kindOf
+canonical-left N A =
+    canonical-all N (A .gates-shaped) (λ g. Unit {0}) Left (λ τ g r. tt) (λ g h z e r q c. gate-left h (c .fits) (c .is)) (λ l. left-of Dff l 0 refl refl (inl refl))
+    (all-of (λ g. Unit {0}) (N .nodes) noGate (λ j l. tt))
+
+-- there a gate costs what it weighs
+pub left-cost : (g : Gate) → Left g → cost g ≡ weight g
+unfolding cost weight
+left-cost g p = rw (p .same And, p .same Xor) (by-bool (inside And g || inside Xor g) (λ e. rw e) (λ e. rw e (go (p .split) e)))
+  where
+    go : (isSimple (kindOf (g .kind)) ≡ true) ⊎ ((f : Family) × (inside f g ≡ true) × (2 < length (g .ins))) → (inside And g || inside Xor g) ≡ false
+        → bit (isSimple (kindOf (g .kind)) && not (isDff g)) ≡ bit (not (isDff g))
+    go (inl s) e = rw s
+    go (inr (f, i, n)) e = clash (sym (ap₂ _||_ (p .same And) (p .same Xor)) ∙ leads-some f g (p .same f ∙ i)) e
