@@ -1,13 +1,13 @@
 -- Which kinds normalization makes, and what a gate costs: it costs no more once it is normalized.
 use mathlib.Core.Path.{_≡_, refl, sym, ap, ap₂, _∙_, subst}
 use mathlib.Core.Logic.{_⊎_, inl, inr}
-use Prim.Native.Nat.{ℕ, _-_, _≤_, _<_}
+use Prim.Native.Nat.{ℕ, _-_, _≤_, _<_, suc}
 use native.Mathlib.Omega.{arith}
 use mathlib.Core.Bool.{Bool, true, false, not, cond, _&&_, _||_}
 use mathlib.Core.List.{List, [], _∷_, map}
-use lib.ListN.{length, length-map}
+use lib.ListN.{length, length-map, getD}
 use lib.Dec.{eqb, ltb}
-use borrow.Author.Tests.{eqb-true, ltb-true}
+use borrow.Author.Tests.{eqb-true, ltb-true, ltb-false}
 use Rattle.kinds.specs.Kinds.{kindOf, codeOf, inFamily, isFlipFlop}
 use Rattle.kinds.proofs.Codes.{kind-code}
 use Rattle.kinds.specs.declared.Kind.{Kind}
@@ -17,18 +17,22 @@ use Rattle.kinds.specs.declared.Family.the-variants.{And, Xor}
 use Rattle.laws.specs.Bools.{bit}
 use Rattle.laws.specs.Lists.{All}
 use Rattle.laws.proofs.Bools.{true-false, and-left, and-right, or-true}
-use Rattle.laws.proofs.Lists.{all-of, by-one, by-two, by-three}
+use Rattle.laws.proofs.Lists.{all-of, by-one, by-two, by-three, all-at, all-append, all-map}
 use Rattle.laws.proofs.Choices.{by-bool, by-test, clash}
 use Rattle.model.specs.Signal.{neg, isInverted, remapOrder}
-use Rattle.model.specs.Gate.{Gate, Net, Valid, noGate, isDff, remapGate, fitsKind, shaped}
+use Rattle.model.specs.Gate.{Gate, Net, Valid, noGate, isDff, remapGate, fitsKind, shaped, size, isTopoSorted}
 use Rattle.model.specs.Normal.{Norm, copied, made, gateOf, made2, made3, andSorted, makeAnd, xorSorted, makeXor, and3Sorted, makeAnd3, xor3Sorted, makeXor3, muxPlain, muxSelect, makeMux, majPlain, majSorted, makeMaj, makeDff, opposed, andSome, andWide, andTidy, makeAndN, xorSome, makeXorN, normalK, makeCanonical, noInv, proper, canonicalK, isCanonical}
-use Rattle.model.specs.Network.{canonical}
-use Rattle.model.specs.Sharing.{inside, weight, isSimple}
+use Rattle.model.specs.Network.{canonical, remap, topoOrder, sorts, topoSort}
+use Rattle.model.specs.Sharing.{inside, weight, isSimple, Pair, taken, takes, pairGate, replaced, grown, factorGates, passRefusal}
 use Rattle.shape.proofs.Sums.{bit-le}
 use Rattle.shape.proofs.DedupNormal.{canonical-law, made-few, made-dff}
 use Rattle.meaning.proofs.Shapes.{gateWith, by-shape}
 use Rattle.meaning.proofs.Canonical.{Canon, canon-of-canonical}
 use Rattle.meaning.proofs.TidyCanonical.{canonical-all}
+use Rattle.shape.proofs.Remap.{remap-size, remap-gate}
+use Rattle.shape.proofs.Sort.{sort-order, sort-valid}
+use Rattle.shape.proofs.FactoringGrown.{ended, grown-nodes, length-ended, valid-grown}
+use Rattle.shape.proofs.FactoringPass.{pass-room, pass-sorts}
 
 -- the n-ary kind of a family that a kind's normal forms belong to, if they belong to one
 abbrev pub nary : Kind → Kind
@@ -317,3 +321,84 @@ left-cost g p = rw (p .same And, p .same Xor) (by-bool (inside And g || inside X
         → bit (isSimple (kindOf (g .kind)) && not (isDff g)) ≡ bit (not (isDff g))
     go (inl s) e = rw s
     go (inr (f, i, n)) e = clash (sym (ap₂ _||_ (p .same And) (p .same Xor)) ∙ leads-some f g (p .same f ∙ i)) e
+
+-- ---- two inputs
+
+-- a gate that leads to family f has two inputs at most
+abbrev pub Pairs : Family → Gate → Type 0
+Pairs f g = leads g f ≡ true → length (g .ins) ≤ 2
+
+pairs-renamed : (f : Family) (τ : ℕ → ℕ) (g : Gate) → Pairs f g → Pairs f (remapGate τ g)
+pairs-renamed f τ g p = rw (length-map (g .ins) (remapOrder τ)) p
+
+pub canonical-pairs : (f : Family) (N : Net) → Valid N → All (Pairs f) (N .nodes) → All (Pairs f) (canonical N .nodes)
+unfolding kindOf
+canonical-pairs f N A = canonical-all N (A .gates-shaped) (Pairs f) (Pairs f) (pairs-renamed f) normal (λ l e. true-false (sym e))
+  where
+    normal : (g h : Gate) (z : Bool) → shaped g ≡ true → Pairs f g → makeCanonical g ≡ made h z → Canon (made h z) → Pairs f h
+    normal g h z e p q c = go (normal-from g h z e q)
+      where
+        go : From (kindOf (g .kind)) (kindOf (h .kind)) → Pairs f h
+        go (alike a t) l = omega (arith, made-few makeCanonical canonical-law g e h z q, p (rw (← a) l))
+        go (simple s r) l = simple-two f h (c .fits) r l
+
+-- what holds of the gates that a pass leaves alone, of its Bufs and of its pairs, holds of the grown network
+module _ (f : Family) (P : Gate → Type 0) (buf : (l : List ℕ) → P (gateOf Buf l)) (pair : (x : Pair) → P (pairGate f x)) where
+  untaken-all : (gs : List Gate) → length (taken f gs) ≡ 0 → All (λ (g : Gate). takes f g ≡ false → P g) gs → All P gs
+  unfolding taken
+  untaken-all [] e h = tt
+  untaken-all (g ∷ gs) e h = by-bool (takes f g)
+      (λ t. let z : suc (length (taken f gs)) ≡ 0 = rw t at e in absurd (omega arith))
+      (λ t. (h .0 t, untaken-all gs (rw t at e) (h .1)))
+
+  replaced-all : (gs : List Gate) (ls : List (List ℕ)) → length ls ≡ length (taken f gs) → All (λ (g : Gate). takes f g ≡ false → P g) gs → All P (replaced f gs ls)
+  unfolding replaced taken
+  replaced-all [] ls e h = tt
+  replaced-all (g ∷ gs) [] e h = untaken-all (g ∷ gs) (sym e) h
+  replaced-all (g ∷ gs) (l ∷ ls) e h = by-bool (takes f g)
+      (λ t. let z : suc (length ls) ≡ suc (length (taken f gs)) = rw t at e in rw t (buf l, replaced-all gs ls (omega arith) (h .1)))
+      (λ t. let z : suc (length ls) ≡ length (taken f gs) = rw t at e in rw t (h .0 t, replaced-all gs (l ∷ ls) z (h .1)))
+
+  built-all : (ps : List Pair) → All P (map (pairGate f) ps)
+  built-all [] = tt
+  built-all (x ∷ ps) = (pair x, built-all ps)
+
+  pub grown-all : (N : Net) → All (λ (g : Gate). takes f g ≡ false → P g) (N .nodes) → All P (grown f N .nodes)
+  grown-all N h =
+      subst (λ (gs : List Gate). All P gs) (sym (grown-nodes f N))
+      (all-append P (replaced f (N .nodes) (ended f N .lists)) (map (pairGate f) (ended f N .built))
+      (replaced-all (N .nodes) (ended f N .lists) (length-ended f N) h) (built-all (ended f N .built)))
+
+pub sort-all : (N : Net) → Valid N → sorts N ≡ true → (P : Gate → Type 0) → ((τ : ℕ → ℕ) (g : Gate) → P g → P (remapGate τ g)) → All P (N .nodes) → All P (topoSort N .nodes)
+unfolding topoSort
+sort-all N A ok P renamed h =
+    all-of P (remap (topoOrder N) N .nodes) noGate (λ j l.
+    let k : j < length (topoOrder N) = omega (arith, remap-size N (topoOrder N)) in
+    let i : getD (topoOrder N) j 0 < size N = all-at (λ o. o < size N) (topoOrder N) 0 (sort-order N (A .signals) ok .bound) j k in
+    subst P (sym (remap-gate N (topoOrder N) j k)) (renamed _ _ (all-at P (N .nodes) noGate h (getD (topoOrder N) j 0) i)))
+
+module _ (f : Family) (N : Net) (A : Valid N) (t : isTopoSorted N ≡ true) (none : passRefusal f N ≡ 0) where
+  pub pass-grown : Valid (grown f N)
+  pass-grown = valid-grown f N A (pass-room f N A none)
+
+  pub pass-source : Valid (topoSort (grown f N))
+  pass-source = sort-valid (grown f N) pass-grown (pass-sorts f N A t none)
+
+  pub pass-left : All Left (factorGates f N .nodes)
+  unfolding factorGates
+  pass-left = canonical-left (topoSort (grown f N)) pass-source
+
+  grown-pairs : (e : Family) → All (λ (g : Gate). takes f g ≡ false → Pairs e g) (N .nodes) → All (Pairs e) (factorGates f N .nodes)
+  unfolding factorGates kindOf
+  grown-pairs e h =
+      canonical-pairs e (topoSort (grown f N)) pass-source
+      (sort-all (grown f N) pass-grown (pass-sorts f N A t none) (Pairs e) (pairs-renamed e)
+      (grown-all f (Pairs e) (λ l q. true-false (sym q)) (λ x q. omega arith) N h))
+
+  -- A PASS LEAVES two-input gates of its family
+  pub pass-pairs : All Left (N .nodes) → All (Pairs f) (factorGates f N .nodes)
+  pass-pairs h = grown-pairs f (all-map (N .nodes) (λ g p q l. let n = ltb-false 1 (length (g .ins)) (rw (← (p .same f), l) at q) in omega arith) h)
+
+  -- and keeps those of the other
+  pub pass-keeps : (e : Family) → All (Pairs e) (N .nodes) → All (Pairs e) (factorGates f N .nodes)
+  pass-keeps e h = grown-pairs e (all-map (N .nodes) (λ g p q. p) h)
