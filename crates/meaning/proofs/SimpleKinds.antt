@@ -1,14 +1,14 @@
--- Which kinds normalization makes, and what a gate costs: it costs no more once it is normalized.
-use mathlib.Core.Path.{_≡_, refl, sym, ap, ap₂, _∙_, subst}
-use mathlib.Core.Logic.{_⊎_, inl, inr}
-use Prim.Native.Nat.{ℕ, _-_, _≤_, _<_, suc}
+-- Which kinds normalization makes, and what a gate costs; canonical and the passes of factoring keep to them, with two inputs in the end.
+use mathlib.Core.Path.{_≡_, refl, sym, ap, ap₂, subst, _∙_}
+use mathlib.Core.Logic.{inl, inr, _⊎_}
+use Prim.Native.Nat.{ℕ, suc, _-_, _≤_, _<_}
 use native.Mathlib.Omega.{arith}
 use mathlib.Core.Bool.{Bool, true, false, not, cond, _&&_, _||_}
-use mathlib.Core.List.{List, [], _∷_, map}
+use mathlib.Core.List.{List, [], map, _∷_}
 use lib.ListN.{length, length-map, getD}
 use lib.Dec.{eqb, ltb}
 use borrow.Author.Tests.{eqb-true, ltb-true, ltb-false}
-use Rattle.kinds.specs.Kinds.{kindOf, codeOf, inFamily, isFlipFlop}
+use Rattle.kinds.specs.Kinds.{kindOf, inFamily, isFlipFlop}
 use Rattle.kinds.proofs.Codes.{kind-code}
 use Rattle.kinds.specs.declared.Kind.{Kind}
 use Rattle.kinds.specs.declared.Kind.the-variants.{And2, Xor2, And3, Xor3, Maj, Mux, AndN, OrN, NandN, NorN, XorN, XnorN, Buf, Dff, Lut}
@@ -25,14 +25,14 @@ use Rattle.model.specs.Normal.{Norm, copied, made, gateOf, made2, made3, andSor
 use Rattle.model.specs.Network.{canonical, remap, topoOrder, sorts, topoSort}
 use Rattle.model.specs.Sharing.{inside, weight, isSimple, Pair, taken, takes, pairGate, replaced, grown, factorGates, passRefusal}
 use Rattle.shape.proofs.Sums.{bit-le}
+use Rattle.shape.proofs.Remap.{remap-size, remap-gate}
+use Rattle.shape.proofs.Sort.{sort-order, sort-valid}
 use Rattle.shape.proofs.DedupNormal.{canonical-law, made-few, made-dff}
+use Rattle.shape.proofs.FactoringGrown.{ended, grown-nodes, length-ended, valid-grown}
+use Rattle.shape.proofs.FactoringPass.{pass-room, pass-sorts}
 use Rattle.meaning.proofs.Shapes.{gateWith, by-shape}
 use Rattle.meaning.proofs.Canonical.{Canon, canon-of-canonical}
 use Rattle.meaning.proofs.TidyCanonical.{canonical-all}
-use Rattle.shape.proofs.Remap.{remap-size, remap-gate}
-use Rattle.shape.proofs.Sort.{sort-order, sort-valid}
-use Rattle.shape.proofs.FactoringGrown.{ended, grown-nodes, length-ended, valid-grown}
-use Rattle.shape.proofs.FactoringPass.{pass-room, pass-sorts}
 
 -- the n-ary kind of a family that a kind's normal forms belong to, if they belong to one
 abbrev pub nary : Kind → Kind
@@ -270,54 +270,58 @@ normal-cost g h z e q = go (normal-from g h z e q)
 
 -- ---- the kinds of a canonical network
 
--- neither Or, Nand, Nor, Xnor nor Buf: a simple kind, or a gate of a family with three or more inputs
-pub record Left (g : Gate) : Type 0 where
-  pub same : (f : Family) → leads g f ≡ inside f g
-  pub split : (isSimple (kindOf (g .kind)) ≡ true) ⊎ ((f : Family) × (inside f g ≡ true) × (2 < length (g .ins)))
+-- a simple kind, or a gate of a family with three or more inputs
+abbrev pub SimpleOrWide : Gate → Type 0
+SimpleOrWide g = (isSimple (kindOf (g .kind)) ≡ true) ⊎ ((f : Family) × (inside f g ≡ true) × (2 < length (g .ins)))
 
-by-family : (P : Family → Type 0) → P And → P Xor → (f : Family) → P f
+-- so neither Or, Nand, Nor, Xnor nor Buf: a gate that leads to a family is of it
+pub record CanonicalKind (g : Gate) : Type 0 where
+  pub same : (f : Family) → leads g f ≡ inside f g
+  pub split : SimpleOrWide g
+
+-- by cases on the family
+pub by-family : (P : Family → Type 0) → P And → P Xor → (f : Family) → P f
 by-family P a x And = a
 by-family P a x Xor = x
 
-left-of : (k : Kind) (l : List ℕ) (t : ℕ) → (leads (gateWith k l t) And ≡ inside And (gateWith k l t)) → (leads (gateWith k l t) Xor ≡ inside Xor (gateWith k l t))
-    → (isSimple (kindOf (codeOf k)) ≡ true) ⊎ ((f : Family) × (inside f (gateWith k l t) ≡ true) × (2 < length l)) → Left (gateWith k l t)
-left-of k l t a x s = record { same = by-family (λ f. leads (gateWith k l t) f ≡ inside f (gateWith k l t)) a x; split = s }
+canonical-kind : (g : Gate) → leads g And ≡ inside And g → leads g Xor ≡ inside Xor g → SimpleOrWide g → CanonicalKind g
+canonical-kind g a x s = record { same = by-family (λ f. leads g f ≡ inside f g) a x; split = s }
 
-kind-left : (k : Kind) (l : List ℕ) (t : ℕ) → fitsKind k (length l) ≡ true → canonicalK k l ≡ true → Left (gateWith k l t)
+kind-canonical : (k : Kind) (l : List ℕ) (t : ℕ) → fitsKind k (length l) ≡ true → canonicalK k l ≡ true → CanonicalKind (gateWith k l t)
 unfolding kindOf canonicalK
-kind-left And2 l t e c = left-of And2 l t refl refl (inl refl)
-kind-left Xor2 l t e c = left-of Xor2 l t refl refl (inl refl)
-kind-left Maj l t e c = left-of Maj l t refl refl (inl refl)
-kind-left Mux l t e c = left-of Mux l t refl refl (inl refl)
-kind-left Dff l t e c = left-of Dff l t refl refl (inl refl)
-kind-left Lut l t e c = left-of Lut l t refl refl (inl refl)
-kind-left And3 l t e c = left-of And3 l t refl refl (inr (And, refl, (let n = eqb-true (length l) 3 e in omega arith)))
-kind-left Xor3 l t e c = left-of Xor3 l t refl refl (inr (Xor, refl, (let n = eqb-true (length l) 3 e in omega arith)))
-kind-left AndN l t e c = left-of AndN l t refl refl (inr (And, refl, (let n = ltb-true 3 (length l) (and-right (proper l) (ltb 3 (length l)) c) in omega arith)))
-kind-left XorN l t e c =
-    left-of XorN l t refl refl (inr (Xor, refl, (let n = ltb-true 3 (length l) (and-right (proper l) (ltb 3 (length l)) (and-left (proper l && ltb 3 (length l)) (noInv l) c)) in omega arith)))
-kind-left OrN l t e c = true-false (sym c)
-kind-left NandN l t e c = true-false (sym c)
-kind-left NorN l t e c = true-false (sym c)
-kind-left XnorN l t e c = true-false (sym c)
-kind-left Buf l t e c = true-false (sym c)
+kind-canonical And2 l t e c = canonical-kind (gateWith And2 l t) refl refl (inl refl)
+kind-canonical Xor2 l t e c = canonical-kind (gateWith Xor2 l t) refl refl (inl refl)
+kind-canonical Maj l t e c = canonical-kind (gateWith Maj l t) refl refl (inl refl)
+kind-canonical Mux l t e c = canonical-kind (gateWith Mux l t) refl refl (inl refl)
+kind-canonical Dff l t e c = canonical-kind (gateWith Dff l t) refl refl (inl refl)
+kind-canonical Lut l t e c = canonical-kind (gateWith Lut l t) refl refl (inl refl)
+kind-canonical And3 l t e c = canonical-kind (gateWith And3 l t) refl refl (inr (And, refl, (let n = eqb-true (length l) 3 e in omega arith)))
+kind-canonical Xor3 l t e c = canonical-kind (gateWith Xor3 l t) refl refl (inr (Xor, refl, (let n = eqb-true (length l) 3 e in omega arith)))
+kind-canonical AndN l t e c = canonical-kind (gateWith AndN l t) refl refl (inr (And, refl, (let n = ltb-true 3 (length l) (and-right (proper l) (ltb 3 (length l)) c) in omega arith)))
+kind-canonical XorN l t e c =
+    canonical-kind (gateWith XorN l t) refl refl (inr (Xor, refl, (let n = ltb-true 3 (length l) (and-right (proper l) (ltb 3 (length l)) (and-left (proper l && ltb 3 (length l)) (noInv l) c)) in omega arith)))
+kind-canonical OrN l t e c = true-false (sym c)
+kind-canonical NandN l t e c = true-false (sym c)
+kind-canonical NorN l t e c = true-false (sym c)
+kind-canonical XnorN l t e c = true-false (sym c)
+kind-canonical Buf l t e c = true-false (sym c)
 
-gate-left : (g : Gate) → shaped g ≡ true → isCanonical g ≡ true → Left g
+gate-canonical : (g : Gate) → shaped g ≡ true → isCanonical g ≡ true → CanonicalKind g
 unfolding isCanonical
-gate-left g e = by-shape (λ (g : Gate). isCanonical g ≡ true → Left g) g e (λ k l t s b. rw (kind-code k) (kind-left k l t s))
+gate-canonical g e = by-shape (λ (g : Gate). isCanonical g ≡ true → CanonicalKind g) g e (λ k l t s b. rw (kind-code k) (kind-canonical k l t s))
 
-pub canonical-left : (N : Net) → Valid N → All Left (canonical N .nodes)
+pub canonical-kinds : (N : Net) → Valid N → All CanonicalKind (canonical N .nodes)
 unfolding kindOf
-canonical-left N A =
-    canonical-all N (A .gates-shaped) (λ g. Unit {0}) Left (λ τ g r. tt) (λ g h z e r q c. gate-left h (c .fits) (c .is)) (λ l. left-of Dff l 0 refl refl (inl refl))
+canonical-kinds N A =
+    canonical-all N (A .gates-shaped) (λ g. Unit {0}) CanonicalKind (λ τ g r. tt) (λ g h z e r q c. gate-canonical h (c .fits) (c .is)) (λ l. canonical-kind (gateOf Dff l) refl refl (inl refl))
     (all-of (λ g. Unit {0}) (N .nodes) noGate (λ j l. tt))
 
 -- there a gate costs what it weighs
-pub left-cost : (g : Gate) → Left g → cost g ≡ weight g
+pub cost-weight : (g : Gate) → CanonicalKind g → cost g ≡ weight g
 unfolding cost weight
-left-cost g p = rw (p .same And, p .same Xor) (by-bool (inside And g || inside Xor g) (λ e. rw e) (λ e. rw e (go (p .split) e)))
+cost-weight g p = rw (p .same And, p .same Xor) (by-bool (inside And g || inside Xor g) (λ e. rw e) (λ e. rw e (go (p .split) e)))
   where
-    go : (isSimple (kindOf (g .kind)) ≡ true) ⊎ ((f : Family) × (inside f g ≡ true) × (2 < length (g .ins))) → (inside And g || inside Xor g) ≡ false
+    go : SimpleOrWide g → (inside And g || inside Xor g) ≡ false
         → bit (isSimple (kindOf (g .kind)) && not (isDff g)) ≡ bit (not (isDff g))
     go (inl s) e = rw s
     go (inr (f, i, n)) e = clash (sym (ap₂ _||_ (p .same And) (p .same Xor)) ∙ leads-some f g (p .same f ∙ i)) e
@@ -384,9 +388,9 @@ module _ (f : Family) (N : Net) (A : Valid N) (t : isTopoSorted N ≡ true) (non
   pub pass-source : Valid (topoSort (grown f N))
   pass-source = sort-valid (grown f N) pass-grown (pass-sorts f N A t none)
 
-  pub pass-left : All Left (factorGates f N .nodes)
+  pub pass-kinds : All CanonicalKind (factorGates f N .nodes)
   unfolding factorGates
-  pass-left = canonical-left (topoSort (grown f N)) pass-source
+  pass-kinds = canonical-kinds (topoSort (grown f N)) pass-source
 
   grown-pairs : (e : Family) → All (λ (g : Gate). takes f g ≡ false → Pairs e g) (N .nodes) → All (Pairs e) (factorGates f N .nodes)
   unfolding factorGates kindOf
@@ -396,7 +400,7 @@ module _ (f : Family) (N : Net) (A : Valid N) (t : isTopoSorted N ≡ true) (non
       (grown-all f (Pairs e) (λ l q. true-false (sym q)) (λ x q. omega arith) N h))
 
   -- A PASS LEAVES two-input gates of its family
-  pub pass-pairs : All Left (N .nodes) → All (Pairs f) (factorGates f N .nodes)
+  pub pass-pairs : All CanonicalKind (N .nodes) → All (Pairs f) (factorGates f N .nodes)
   pass-pairs h = grown-pairs f (all-map (N .nodes) (λ g p q l. let n = ltb-false 1 (length (g .ins)) (rw (← (p .same f), l) at q) in omega arith) h)
 
   -- and keeps those of the other

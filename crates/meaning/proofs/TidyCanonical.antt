@@ -4,7 +4,7 @@ use Prim.Native.Nat.{ℕ, _/_, _≤_, _<_}
 use native.Mathlib.Nat.{le-refl}
 use native.Mathlib.Omega.{arith}
 use mathlib.Core.Bool.{Bool, true, false, not, _&&_}
-use mathlib.Core.List.{List, [], _∷_, map}
+use mathlib.Core.List.{List, [], map, _∷_}
 use lib.ListN.{length, getD}
 use lib.Dec.{ltb}
 use borrow.Author.Tests.{eqb-true, ltb-true}
@@ -30,6 +30,14 @@ use Rattle.meaning.proofs.Shapes.{gateWith, by-shape}
 use Rattle.meaning.proofs.Canonical.{Canon, canon-of-canonical}
 use Rattle.meaning.proofs.Tidy.{Tidy}
 
+-- what a gate keeps under any renaming, it keeps where it is looked up
+pub asked-keeps : (N : Net) (P : Gate → Type 0) → ((τ : ℕ → ℕ) (g : Gate) → P g → P (remapGate τ g)) → (τ : ℕ → ℕ) (n : ℕ) → P (gateAt N n)
+    → P (askedGate makeCanonical N τ n)
+asked-keeps N P renamed τ n p = by-bool (isDff (gateAt N n)) (λ d. rw d p) (λ d. rw d (renamed τ (gateAt N n) p))
+
+pub asked-shaped : (N : Net) → allShaped (N .nodes) ≡ true → (τ : ℕ → ℕ) (n : ℕ) → n < size N → shaped (askedGate makeCanonical N τ n) ≡ true
+asked-shaped N ok τ n l = asked-keeps N (λ g. shaped g ≡ true) (λ τ g s. shaped-remap τ g ∙ s) τ n (shaped-at (N .nodes) ok n l)
+
 -- ---- what holds of every flip-flop, and of every normal form of a gate with the source's R, holds of every gate of the result
 
 module _ (N : Net) (ok : allShaped (N .nodes) ≡ true) (R P : Gate → Type 0)
@@ -37,34 +45,29 @@ module _ (N : Net) (ok : allShaped (N .nodes) ≡ true) (R P : Gate → Type 0)
     (normal : (g h : Gate) (z : Bool) → shaped g ≡ true → R g → makeCanonical g ≡ made h z → Canon (made h z) → P h)
     (cell : (l : List ℕ) → P (gateOf Dff l))
     (source : All R (N .nodes)) where
-  Left : Gate → Type 0
-  Left g = (shaped g ≡ true) × P g
+  Made : Gate → Type 0
+  Made g = (shaped g ≡ true) × P g
 
-  asked-left : (τ : ℕ → ℕ) (n : ℕ) → n < size N → (h : Gate) (z : Bool) → asked makeCanonical N τ n ≡ made h z → Left h
-  unfolding Left
-  asked-left τ n l h z e =
-      let g = gateAt N n in
-      let a = askedGate makeCanonical N τ n in
-      let s : shaped g ≡ true = shaped-at (N .nodes) ok n l in
-      let r : R g = all-at R (N .nodes) noGate source n l in
-      let sa : shaped a ≡ true = by-bool (isDff g) (λ d. rw d s) (λ d. rw d (shaped-remap τ g ∙ s)) in
-      let ra : R a = by-bool (isDff g) (λ d. rw d r) (λ d. rw d (renamed τ g r)) in
-      let c : Canon (made h z) = subst Canon e (canon-of-canonical a sa) in
-      (c .fits, normal a h z sa ra e c)
+  asked-made : (τ : ℕ → ℕ) (n : ℕ) → n < size N → (h : Gate) (z : Bool) → asked makeCanonical N τ n ≡ made h z → Made h
+  unfolding Made
+  asked-made τ n l h z e =
+      let s = asked-shaped N ok τ n l in
+      let c : Canon (made h z) = subst Canon e (canon-of-canonical (askedGate makeCanonical N τ n) s) in
+      (c .fits, normal (askedGate makeCanonical N τ n) h z s (asked-keeps N R renamed τ n (all-at R (N .nodes) noGate source n l)) e c)
 
-  news-left : (b : Bool) (k : ℕ) → k ≤ size N → All Left (upTo makeCanonical N b k .news)
-  news-left = sweep makeCanonical N (λ b k d. All Left (d .news)) (rw (upTo-start makeCanonical N) tt) turn (λ b k h e p. p) (λ p. p)
+  news-made : (b : Bool) (k : ℕ) → k ≤ size N → All Made (upTo makeCanonical N b k .news)
+  news-made = sweep makeCanonical N (λ b k d. All Made (d .news)) (rw (upTo-start makeCanonical N) tt) turn (λ b k h e p. p) (λ p. p)
     where
-      turn : (b : Bool) (k : ℕ) → k < size N → isD makeCanonical N k ≡ b → All Left (upTo makeCanonical N b k .news)
-          → All Left (dedupNode (asked makeCanonical N (upTo makeCanonical N b k .trans) k) k (upTo makeCanonical N b k) .news)
+      turn : (b : Bool) (k : ℕ) → k < size N → isD makeCanonical N k ≡ b → All Made (upTo makeCanonical N b k .news)
+          → All Made (dedupNode (asked makeCanonical N (upTo makeCanonical N b k .trans) k) k (upTo makeCanonical N b k) .news)
       turn b k h e p = go _ (grown (asked makeCanonical N (upTo makeCanonical N b k .trans) k) k (upTo makeCanonical N b k))
         where
-          go : (m : List Gate) → Grown (asked makeCanonical N (upTo makeCanonical N b k .trans) k) (upTo makeCanonical N b k .news) m → All Left m
+          go : (m : List Gate) → Grown (asked makeCanonical N (upTo makeCanonical N b k .trans) k) (upTo makeCanonical N b k .news) m → All Made m
           go m (same q) = rw q p
-          go m (more g z q r) = rw r (all-append Left (upTo makeCanonical N b k .news) (g ∷ []) p (asked-left (upTo makeCanonical N b k .trans) k h g z q, tt))
+          go m (more g z q r) = rw r (all-append Made (upTo makeCanonical N b k .news) (g ∷ []) p (asked-made (upTo makeCanonical N b k .trans) k h g z q, tt))
 
-  turned : (τ : ℕ → ℕ) (l : List Gate) → All Left l → All P (map (remapDff makeCanonical N τ) l)
-  unfolding Left
+  turned : (τ : ℕ → ℕ) (l : List Gate) → All Made l → All P (map (remapDff makeCanonical N τ) l)
+  unfolding Made
   turned τ [] h = tt
   turned τ (g ∷ l) h = (
     by-bool (isDff g) (λ d. rw d (subst P (sym (ap (remapGate τ) (dff-is g (h .0 .0) d))) (cell (map (remapOrder τ) (g .ins))))) (λ d. rw d (h .0 .1)),
@@ -73,7 +76,7 @@ module _ (N : Net) (ok : allShaped (N .nodes) ≡ true) (R P : Gate → Type 0)
 
   pub canonical-all : All P (canonical N .nodes)
   unfolding dedupWith
-  canonical-all = turned (dedupCombs makeCanonical N (size N) .trans) (dedupCombs makeCanonical N (size N) .news) (news-left false (size N) (le-refl _))
+  canonical-all = turned (dedupCombs makeCanonical N (size N) .trans) (dedupCombs makeCanonical N (size N) .news) (news-made false (size N) (le-refl _))
 
 -- ---- gates of a family
 

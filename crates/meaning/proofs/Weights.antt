@@ -1,37 +1,37 @@
 -- What gates cost in all: a pass builds no more pairs than its gates have inputs, less one each; so no pass raises the cost.
 use mathlib.Core.Path.{_≡_, refl, sym, ap₂, _∙_}
 use mathlib.Core.Logic.{inl, inr}
-use Prim.Native.Nat.{ℕ, zero, suc, _+_, _≤_, _<_, zero-le}
+use Prim.Native.Nat.{ℕ, zero, suc, _+_, zero-le, _≤_, _<_}
 use native.Mathlib.Nat.{le-refl}
 use native.Mathlib.Omega.{arith}
 use mathlib.Core.Bool.{Bool, true, false, not, cond}
-use mathlib.Core.List.{List, [], _∷_, _++_, map}
+use mathlib.Core.List.{List, [], _++_, map, _∷_}
 use lib.ListN.{length, getD, set, length-append}
-use Rattle.kinds.specs.declared.Family.{Family}
-use Rattle.model.specs.Signal.{fromVar}
-use Rattle.laws.specs.Lists.{All}
-use Rattle.laws.proofs.Choices.{by-bool}
-use Rattle.model.specs.Gate.{Gate, Net, size, Valid, gateAt, isDff, isTopoSorted, remapGate, shaped}
-use Rattle.model.specs.Sharing.{Pair, State, exclusiveSignals, factoring, giveBack, joinRound, once, replaceIn, replacePair, retain, roundLeft, roundPairs, sharedSignals, taken, total, factorGates, grown, inside, pairGate, passRefusal, replaced, takes}
-use Rattle.shape.proofs.FactoringFuel.{Two, TwoIn, in-le}
-use Rattle.shape.proofs.FactoringSteps.{allPairs-keeps, consume-keeps, joins-keep}
-use Rattle.shape.proofs.FactoringEnds.{One, factoring-parts, given, paired, split-length}
-use Rattle.shape.proofs.FactoringGrown.{ended, ended-one, length-ended, grown-nodes}
 use lib.Dec.{ltb}
 use borrow.Author.Tests.{ltb-true}
 use Rattle.kinds.specs.Kinds.{kindOf}
 use Rattle.kinds.specs.declared.Kind.the-variants.{Buf}
+use Rattle.kinds.specs.declared.Family.{Family}
 use Rattle.kinds.specs.declared.Family.the-variants.{And, Xor}
+use Rattle.laws.specs.Lists.{All}
 use Rattle.laws.proofs.Bools.{and-left, and-right}
+use Rattle.laws.proofs.Choices.{by-bool}
+use Rattle.model.specs.Signal.{fromVar}
+use Rattle.model.specs.Gate.{Gate, Net, size, Valid, gateAt, isDff, isTopoSorted, remapGate, shaped}
 use Rattle.model.specs.Normal.{made, gateOf, makeCanonical}
 use Rattle.model.specs.Network.{sumTo, canonical, dedupCombs, dedupWith, remap, remapDff, sorts, topoOrder, topoSort, translation}
+use Rattle.model.specs.Sharing.{Pair, State, exclusiveSignals, factoring, giveBack, joinRound, once, replaceIn, replacePair, retain, roundLeft, roundPairs, sharedSignals, taken, total, factorGates, grown, inside, pairGate, passRefusal, replaced, takes}
 use Rattle.shape.proofs.Sums.{sumOver, sum-add, sum-distinct, sum-same}
-use Rattle.shape.proofs.Named.{shaped-at}
-use Rattle.shape.proofs.DedupSweep as sums
-use Rattle.shape.proofs.DedupSweep.{askedGate, asked, due-total, shaped-remap, weigh}
 use Rattle.shape.proofs.Sort.{sort-order}
+use Rattle.shape.proofs.DedupSweep as sums
+use Rattle.shape.proofs.DedupSweep.{askedGate, asked, due-total, weigh}
+use Rattle.shape.proofs.FactoringFuel.{Two, TwoIn, in-le}
+use Rattle.shape.proofs.FactoringSteps.{allPairs-keeps, consume-keeps, joins-keep}
+use Rattle.shape.proofs.FactoringEnds.{One, factoring-parts, given, paired, split-length}
+use Rattle.shape.proofs.FactoringGrown.{ended, ended-one, length-ended, grown-nodes}
 use Rattle.shape.proofs.FactoringPass.{pass-sorts}
-use Rattle.meaning.proofs.SimpleKinds.{Left, cost, cost-leads, cost-renamed, normal-cost, pass-grown, pass-source}
+use Rattle.meaning.proofs.TidyCanonical.{asked-keeps, asked-shaped}
+use Rattle.meaning.proofs.SimpleKinds.{CanonicalKind, cost, cost-leads, cost-renamed, normal-cost, pass-grown, pass-source}
 
 -- ---- pairs built and signals left: together no more than the signals at the start
 
@@ -125,39 +125,39 @@ module _ (w : Gate → ℕ) (renamed : (τ : ℕ → ℕ) (g : Gate) → w (rema
   module _ (normal : (g h : Gate) (z : Bool) → shaped g ≡ true → makeCanonical g ≡ made h z → w h ≤ w g) where
     light : (τ : ℕ → ℕ) (n : ℕ) → n < size N → (h : Gate) (z : Bool) → asked makeCanonical N τ n ≡ made h z → w h ≤ w (gateAt N n)
     light τ n l h z q =
-        let g = gateAt N n in
-        let s : shaped g ≡ true = shaped-at (N .nodes) (A .gates-shaped) n l in
-        let t : shaped (askedGate makeCanonical N τ n) ≡ true = by-bool (isDff g) (λ d. rw d s) (λ d. rw d (shaped-remap τ g ∙ s)) in
-        let e : w (askedGate makeCanonical N τ n) ≡ w g = by-bool (isDff g) (λ d. rw d) (λ d. rw d (renamed τ g)) in
-        omega (arith, normal (askedGate makeCanonical N τ n) h z t q)
+        omega (
+          arith,
+          normal (askedGate makeCanonical N τ n) h z (asked-shaped N (A .gates-shaped) τ n l) q,
+          asked-keeps N (λ h. w h ≡ w (gateAt N n)) (λ τ h e. renamed τ h ∙ e) τ n refl,
+        )
 
-    turned-sum : (τ : ℕ → ℕ) (l : List Gate) → sums.total w (map (remapDff makeCanonical N τ) l) ≡ sums.total w l
-    turned-sum τ [] = refl
-    turned-sum τ (g ∷ l) = ap₂ _+_ (by-bool (isDff g) (λ d. rw d (renamed τ g)) (λ d. rw d)) (turned-sum τ l)
+    turned-weights : (τ : ℕ → ℕ) (l : List Gate) → sums.total w (map (remapDff makeCanonical N τ) l) ≡ sums.total w l
+    turned-weights τ [] = refl
+    turned-weights τ (g ∷ l) = ap₂ _+_ (by-bool (isDff g) (λ d. rw d (renamed τ g)) (λ d. rw d)) (turned-weights τ l)
 
-    pub canonical-sum : sums.total w (canonical N .nodes) ≤ sums.total w (N .nodes)
+    pub canonical-weights : sums.total w (canonical N .nodes) ≤ sums.total w (N .nodes)
     unfolding dedupWith
-    canonical-sum =
+    canonical-weights =
         let d = dedupCombs makeCanonical N (size N) in
-        omega (arith, turned-sum (d .trans) (d .news), weigh makeCanonical N w light false (size N) (le-refl _), due-total makeCanonical N w)
+        omega (arith, turned-weights (d .trans) (d .news), weigh makeCanonical N w light false (size N) (le-refl _), due-total makeCanonical N w)
 
   -- nor does sort
-  nodes-sum : sumTo (λ i. w (gateAt N i)) (size N) ≡ sums.total w (N .nodes)
-  nodes-sum =
+  nodes-weights : sumTo (λ i. w (gateAt N i)) (size N) ≡ sums.total w (N .nodes)
+  nodes-weights =
       let d : ℕ → ℕ = λ i. cond (isDff (gateAt N i)) (w (gateAt N i)) 0 in
       let c : ℕ → ℕ = λ i. cond (isDff (gateAt N i)) 0 (w (gateAt N i)) in
       sum-same (λ i. w (gateAt N i)) (λ i. d i + c i) (size N) (λ i l. by-bool (isDff (gateAt N i)) (λ e. rw e (omega arith)) (λ e. rw e (omega arith)))
       ∙ sym (sum-add d c (size N)) ∙ due-total makeCanonical N w
 
-  order-sum : (τ : ℕ → ℕ) (l : List ℕ) → sums.total w (map (λ o. remapGate τ (gateAt N o)) l) ≡ sumOver (λ o. w (gateAt N o)) l
-  order-sum τ [] = refl
-  order-sum τ (o ∷ l) = ap₂ _+_ (renamed τ (gateAt N o)) (order-sum τ l)
+  order-weights : (τ : ℕ → ℕ) (l : List ℕ) → sums.total w (map (λ o. remapGate τ (gateAt N o)) l) ≡ sumOver (λ o. w (gateAt N o)) l
+  order-weights τ [] = refl
+  order-weights τ (o ∷ l) = ap₂ _+_ (renamed τ (gateAt N o)) (order-weights τ l)
 
-  pub sort-sum : sorts N ≡ true → sums.total w (topoSort N .nodes) ≤ sums.total w (N .nodes)
+  pub sort-weights : sorts N ≡ true → sums.total w (topoSort N .nodes) ≤ sums.total w (N .nodes)
   unfolding topoSort remap
-  sort-sum ok =
+  sort-weights ok =
       let O = sort-order N (A .signals) ok in
-      omega (arith, order-sum (translation (size N) (topoOrder N)) (topoOrder N), sum-distinct (size N) (λ o. w (gateAt N o)) (topoOrder N) (O .distinct) (O .bound), nodes-sum)
+      omega (arith, order-weights (translation (size N) (topoOrder N)) (topoOrder N), sum-distinct (size N) (λ o. w (gateAt N o)) (topoOrder N) (O .distinct) (O .bound), nodes-weights)
 
 -- ---- the cost of a network
 
@@ -186,12 +186,12 @@ unfolding total
 none-total [] e = refl
 none-total (l ∷ ls) e = absurd (omega arith)
 
-taken-cost : (f : Family) (g : Gate) → Left g → takes f g ≡ true → cost g + 1 ≡ length (g .ins)
+taken-cost : (f : Family) (g : Gate) → CanonicalKind g → takes f g ≡ true → cost g + 1 ≡ length (g .ins)
 taken-cost f g p t =
     let n = ltb-true 1 (length (g .ins)) (and-right (inside f g) (ltb 1 (length (g .ins))) t) in
     omega (arith, cost-leads f g (p .same f ∙ and-left (inside f g) (ltb 1 (length (g .ins))) t))
 
-replaced-cost : (f : Family) (gs : List Gate) (ls : List (List ℕ)) → All Left gs → length ls ≡ length (taken f gs)
+replaced-cost : (f : Family) (gs : List Gate) (ls : List (List ℕ)) → All CanonicalKind gs → length ls ≡ length (taken f gs)
     → costs (replaced f gs ls) + total (taken f gs) ≡ costs gs + length (taken f gs)
 unfolding replaced taken total
 replaced-cost f [] ls h e = refl
@@ -204,18 +204,18 @@ replaced-cost f (g ∷ gs) (l ∷ ls) h e = by-bool (takes f g)
     let z : suc (length ls) ≡ length (taken f gs) = rw t at e in
     rw t (omega (arith, replaced-cost f gs (l ∷ ls) (h .1) z)))
 
-grown-cost : (f : Family) (N : Net) → All Left (N .nodes) → costs (grown f N .nodes) ≤ costs (N .nodes)
+grown-cost : (f : Family) (N : Net) → All CanonicalKind (N .nodes) → costs (grown f N .nodes) ≤ costs (N .nodes)
 grown-cost f N h =
     rw (grown-nodes f N, costs-append (replaced f (N .nodes) (ended f N .lists)) (map (pairGate f) (ended f N .built)))
     (omega (arith, replaced-cost f (N .nodes) (ended f N .lists) h (length-ended f N), pairs-cost f (ended f N .built), built-few f N))
 
 -- A PASS DOES NOT RAISE THE COST
-pub pass-cost : (f : Family) (N : Net) → Valid N → isTopoSorted N ≡ true → passRefusal f N ≡ 0 → All Left (N .nodes) → costs (factorGates f N .nodes) ≤ costs (N .nodes)
+pub pass-cost : (f : Family) (N : Net) → Valid N → isTopoSorted N ≡ true → passRefusal f N ≡ 0 → All CanonicalKind (N .nodes) → costs (factorGates f N .nodes) ≤ costs (N .nodes)
 unfolding factorGates
 pass-cost f N A t none h =
     omega (
       arith,
-      canonical-sum cost cost-renamed (topoSort (grown f N)) (pass-source f N A t none) normal-cost,
-      sort-sum cost cost-renamed (grown f N) (pass-grown f N A t none) (pass-sorts f N A t none),
+      canonical-weights cost cost-renamed (topoSort (grown f N)) (pass-source f N A t none) normal-cost,
+      sort-weights cost cost-renamed (grown f N) (pass-grown f N A t none) (pass-sorts f N A t none),
       grown-cost f N h,
     )
