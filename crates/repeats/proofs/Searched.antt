@@ -10,10 +10,13 @@ use borrow.Author.Tests.{not-false, not-true}
 use Rattle.model.specs.Gate.{Gate}
 use Rattle.model.specs.Sharing.{anyRepeats, repeats, takes}
 use Rattle.repeats.specs.Reading.{Node, Nodes}
+use Rattle.tables.specs.Holding.{Held}
 use Rattle.tables.specs.Layout.{gateAt, insAt, nodesOf}
 use Rattle.laws.proofs.Choices.{by-bool}
 use Rattle.tables.proofs.Building.{nodesOf-next, nodesOf-none}
+use Rattle.tables.proofs.Holding.{nodes-few}
 use Rattle.kinds.specs.declared.Family.the-variants.{And}
+use Rattle.tables.specs.declared.counts.Counts.{Counts}
 
 any-append : (a b : List Gate) → anyRepeats (a ++ b) ≡ (anyRepeats a || anyRepeats b)
 unfolding anyRepeats
@@ -33,6 +36,10 @@ module _ (l : List ℕ) where
   any-more : (v d : ℕ) → anyRepeats (nodesOf l v) ≡ true → anyRepeats (nodesOf l (d + v)) ≡ true
   any-more v zero h = let e : 0 + v ≡ v = omega arith in rw e h
   any-more v (suc d) h = let e : suc d + v ≡ suc (d + v) = omega arith in rw (e, any-next (d + v), any-more v d h)
+
+-- what a caller that holds a network meets
+pub held-nodes : (l : List ℕ) (c : Counts) → Held l c → Nodes l (c .nodes)
+held-nodes l c H = record { long = H .long; few = nodes-few l c H; ends = H .ends }
 
 pub node-at : (l : List ℕ) (n v : ℕ) → Nodes l n → v < n → Node l v
 node-at l n v N h = record { long = N .long; few = (let q = N .few in omega arith); ends = N .ends v h }
