@@ -1,0 +1,188 @@
+-- Laws of one gate put behind those that stand there: as it is, or merged.
+use Prim.Native.Nat.{ℕ, _*_, _+_, _-_, _<_, _^_, _≤_}
+use mathlib.Core.Path.{ap, refl, sym, _∙_, _≡_}
+use mathlib.Core.Bool.{Bool, false, true}
+use mathlib.Core.List.{List, [], _++_, _∷_}
+use native.Mathlib.Omega.{arith}
+use mir.Syntax.{w32, w64}
+use mir.Val.{Fits}
+use lib.ListN.{getD, length}
+use Rattle.flatten.specs.Pushing.{Merges, Pushes, behind, inputsFrom, putWords}
+use Rattle.flatten.specs.Flattening.{Copies, Flattens, Grew, Puts}
+use Rattle.kinds.specs.Kinds.{codeOf, inFamily, kindOf, wideOf}
+use Rattle.kinds.specs.declared.Family.{Family}
+use Rattle.kinds.specs.declared.Family.the-variants.{And, Xor}
+use Rattle.kinds.specs.declared.Kind.{Kind}
+use Rattle.laws.specs.Lists.{tab}
+use Rattle.model.specs.Gate.{Gate}
+use Rattle.model.specs.Normal.{gateOf}
+use Rattle.model.specs.Sharing.{flatBy, flatGate, inside, mergeDependencies}
+use Rattle.tables.specs.Building.{Packed, putInputs, putNode}
+use Rattle.tables.specs.Layout.{countAt, firstAt, gateAt, highAt, insAt, kindAt, lowAt, netSize, nodesOf, putGate, putTable}
+use Rattle.tables.proofs.Building.{nodesOf-putNode, packed-putNode}
+use Rattle.tables.proofs.Gates.{gate≡}
+use Rattle.tables.proofs.Holding.{length-insAt}
+use Rattle.flatten.proofs.Openings.{ins-gate, kind-gate}
+use Rattle.flatten.proofs.Words.{behind-fits, behind-is, behind-le, behind-none, behind-over, insAt-words, putWords-inputs, tab-words}
+use Rattle.flatten.specs.declared.merge.Pushed.{Pushed}
+use Rattle.flatten.specs.declared.merge.Pushed.the-variants.{To, Full}
+
+-- ---- the gate that is put
+
+module _ (l m : List ℕ) (v at : ℕ) (g : Gate) where
+  pub grew-full : 2048 < at + length (g .ins) → Grew l m v at g Full
+  grew-full h = record { answer = sym (behind-none at (length (g .ins)) h); packed = λ q. absurd (omega arith); nodes = λ q. absurd (omega arith) }
+
+  module _ (P : Packed l v at) (h : v < 512) (r : at + length (g .ins) ≤ 2048) (lo hi : ℕ) (et : lo + 2 ^ 32 * hi ≡ g .table) where
+    pub grew-to : m ≡ putTable (putGate (putWords l at (g .ins)) v (g .kind) at (length (g .ins))) v lo hi → Grew l m v at g (To (at + length (g .ins)))
+    unfolding putNode
+    grew-to e =
+        let ws = g .ins in
+        let f : ℕ → ℕ = λ j. getD (g .ins) j 0 in
+        let n = length (g .ins) in
+        let p : m ≡ putNode l v (g .kind) at f n lo hi = e ∙ ap (λ x. putTable (putGate x v (g .kind) at n) v lo hi) (putWords-inputs l at ws) in
+        let q : _≡_ {A = Gate} (record { kind = g .kind; ins = tab (λ j. getD (g .ins) j 0) (length (g .ins)); table = lo + 2 ^ 32 * hi }) g = gate≡ refl (tab-words ws) et in
+        record {
+          answer = sym (behind-fits at n r);
+          packed = λ _. rw p (packed-putNode l v at P (g .kind) f n lo hi h r);
+          nodes = λ _. rw p (nodesOf-putNode l v at P (g .kind) f n lo hi h r ∙ ap (λ x. nodesOf l v ++ (x ∷ [])) q);
+        }
+
+-- ---- copy_gate
+
+table-gate : (l : List ℕ) (v lo hi : ℕ) → lo ≡ lowAt l v → hi ≡ highAt l v → lo + 2 ^ 32 * hi ≡ gateAt l v .table
+unfolding gateAt
+table-gate l v lo hi el eh = rw (el, eh)
+
+module _ (from l : List ℕ) (v at : ℕ) (P : Puts from l v at) where
+  length-gate : length (gateAt from v .ins) ≡ countAt from v
+  length-gate = ap length (ins-gate from v) ∙ length-insAt from v
+
+  pub copy-node : v < 512
+  copy-node = P .node
+
+  pub copy-source : netSize ≤ length from
+  copy-source = P .source
+
+  pub copy-room : at ≤ 2048
+  copy-room = P .packed .room
+
+  pub copy-long : netSize ≤ length l
+  copy-long = P .packed .long
+
+  module _ (n : ℕ) (en : n ≡ countAt from v) where
+    pub copy-full : 2048 - at < n → Grew l l v at (gateAt from v) Full
+    copy-full h = grew-full l l v at (gateAt from v) (omega (arith, length-gate, P .packed .room))
+
+    module _ (h : n ≤ 2048 - at) where
+      pub copy-fits : Fits w64 (at + n)
+      copy-fits = record { fits = omega (arith, P .packed .room) }
+
+      pub copy-at : Fits w32 at
+      copy-at = record { fits = omega (arith, P .packed .room) }
+
+      pub copy-count : Fits w32 n
+      copy-count = record { fits = omega (arith, P .packed .room) }
+
+      module _ (f : ℕ) (ef : f ≡ firstAt from v) where
+        pub copy-inputs : Copies from l f at n
+        copy-inputs = record { source = P .source; long = P .packed .long; ends = omega (arith, P .ends); room = omega (arith, P .packed .room) }
+
+        pub copy-done : (k lo hi : ℕ) (m o q : List ℕ) → k ≡ kindAt from v → lo ≡ lowAt from v → hi ≡ highAt from v
+            → m ≡ putInputs l at (inputsFrom from f) n → o ≡ putGate m v k at n → q ≡ putTable o v lo hi → Grew l q v at (gateAt from v) (To (at + n))
+        copy-done k lo hi m o q ek el eh em eo eq =
+            let g = gateAt from v in
+            let w : m ≡ putWords l at (g .ins) = insAt-words from l v at m (em ∙ rw (en, ef)) ∙ ap (putWords l at) (sym (ins-gate from v)) in
+            let e : length (g .ins) ≡ n = length-gate ∙ sym en in
+            let x : Grew l q v at g (To (at + length (g .ins))) =
+            grew-to l q v at g (P .packed) (P .node) (omega (arith, P .packed .room)) lo hi (table-gate from v lo hi el eh)
+            (eq ∙ rw (eo, w, ek, ← (kind-gate from v), ← e)) in
+            rw e at x
+
+pub ruleset gateCopies = (copy-node, copy-source, copy-room, copy-long, copy-full, copy-fits, copy-at, copy-count, copy-inputs, copy-done)
+
+-- ---- merge_gate
+
+module _ (f : Family) (from l : List ℕ) (v limit at : ℕ) (M : Merges from l v at) where
+  -- the words that its inputs become
+  abbrev gathered : List ℕ
+  gathered = mergeDependencies f (gateAt l) limit (insAt from v) []
+
+  merged-ins : flatBy f (gateAt l) limit (gateAt from v) ≡ gateOf (wideOf f) gathered
+  merged-ins = ap (λ x. gateOf (wideOf f) (mergeDependencies f (gateAt l) limit x [])) (ins-gate from v)
+
+  pub merge-node : v < 512
+  merge-node = M .node
+
+  module _ (m : List ℕ) (r : Pushed) (P : Pushes l m at (mergeDependencies f (gateAt l) limit (insAt from v) []) r) where
+    pub merge-full : r ≡ Full → Grew l m v at (flatBy f (gateAt l) limit (gateAt from v)) Full
+    merge-full e = rw merged-ins (grew-full l m v at (gateOf (wideOf f) gathered) (behind-over at (length gathered) (sym e ∙ P .answer)))
+
+    module _ (end : ℕ) (e : r ≡ To end) where
+      fits : at + length gathered ≤ 2048
+      fits = behind-le at (length gathered) end (sym e ∙ P .answer)
+
+      end-is : end ≡ at + length gathered
+      end-is = behind-is at (length gathered) end (sym e ∙ P .answer)
+
+      pub merge-from : at ≤ end
+      merge-from = omega (arith, end-is)
+
+      pub merge-at : Fits w32 at
+      merge-at = record { fits = omega (arith, fits) }
+
+      pub merge-count : Fits w32 (end - at)
+      merge-count = record { fits = omega (arith, fits, end-is) }
+
+      pub merge-long : length m ≡ length l → netSize ≤ length m
+      merge-long len = omega (arith, M .packed .long)
+
+      pub merge-done : (K : Kind) (k : ℕ) (o q : List ℕ) → K ≡ wideOf f → k ≡ codeOf K → o ≡ putGate m v k at (end - at) → q ≡ putTable o v 0 0
+          → Grew l q v at (flatBy f (gateAt l) limit (gateAt from v)) (To end)
+      merge-done K k o q eK ek eo eq =
+          let c : end - at ≡ length gathered = omega (arith, end-is) in
+          rw (merged-ins, end-is)
+          (grew-to l q v at (gateOf (wideOf f) gathered) (M .packed) (M .node) fits 0 0 refl (eq ∙ rw (eo, P .words fits, ek, eK, c)))
+
+pub ruleset mergers = (merge-node, merge-full, merge-from, merge-at, merge-count, merge-long, merge-done)
+
+-- ---- flatten_gate
+
+module _ (from l : List ℕ) (v at : ℕ) (F : Flattens from l v at) where
+  pub flat-node : v < 512
+  flat-node = F .puts .node
+
+  pub flat-source : netSize ≤ length from
+  flat-source = F .puts .source
+
+  pub flat-puts : Puts from l v at
+  flat-puts = F .puts
+
+  module _ (k : ℕ) (K : Kind) (ek : k ≡ kindAt from v) (eK : K ≡ kindOf k) where
+    inside-is : (f : Family) (b t : Bool) → b ≡ inFamily K f → b ≡ t → inside f (gateAt from v) ≡ t
+    inside-is f b t eb h = rw (kind-gate from v, ← ek, ← eK, ← eb) h
+
+    pub flat-merges : (f : Family) (b : Bool) → b ≡ inFamily K f → b ≡ true → Merges from l v at
+    flat-merges f b eb h = record {
+      source = F .puts .source;
+      node = F .puts .node;
+      ends = F .puts .ends;
+      packed = F .puts .packed;
+      below = F .below f (inside-is f b true eb h);
+    }
+
+    module _ (limit : ℕ) (m : List ℕ) (r : Pushed) (a : Bool) (ea : a ≡ inFamily K And) where
+      pub flat-and : a ≡ true → Grew l m v at (flatBy And (gateAt l) limit (gateAt from v)) r → Grew l m v at (flatGate (gateAt l) limit (gateAt from v)) r
+      unfolding flatGate
+      flat-and h G = rw (inside-is And a true ea h) G
+
+      module _ (h : a ≡ false) (x : Bool) (ex : x ≡ inFamily K Xor) where
+        pub flat-xor : x ≡ true → Grew l m v at (flatBy Xor (gateAt l) limit (gateAt from v)) r → Grew l m v at (flatGate (gateAt l) limit (gateAt from v)) r
+        unfolding flatGate
+        flat-xor q G = rw (inside-is And a false ea h, inside-is Xor x true ex q) G
+
+        pub flat-other : x ≡ false → Grew l m v at (gateAt from v) r → Grew l m v at (flatGate (gateAt l) limit (gateAt from v)) r
+        unfolding flatGate
+        flat-other q G = rw (inside-is And a false ea h, inside-is Xor x false ex q) G
+
+pub ruleset flattens = (flat-node, flat-source, flat-puts, flat-merges, flat-and, flat-xor, flat-other)

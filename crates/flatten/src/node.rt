@@ -1,0 +1,79 @@
+// One gate put behind those in `to`: merged if it is an And or a Xor, else as it is.
+ghost use mathlib.Core.Path.{_≡_};
+ghost use Prim.Native.Nat.{_+_, _<_};
+ghost use Rattle.model.specs.Sharing.{flatBy, flatGate};
+ghost use Rattle.tables.specs.Layout.{gateAt};
+ghost use Rattle.tables.specs.Building.{putInputs};
+ghost use Rattle.flatten.specs.Pushing.{inputsFrom, Merges};
+ghost use Rattle.flatten.specs.Flattening.{Copies, Puts, Flattens, Grew};
+use crate::merge::Pushed;
+use crate::merge::merge_dependencies;
+use kinds::Family;
+use kinds::code;
+use kinds::is_and;
+use kinds::is_xor;
+use kinds::kind_of;
+use kinds::wide;
+use tables::layout::count_at;
+use tables::layout::first_at;
+use tables::layout::high_at;
+use tables::layout::input_at;
+use tables::layout::kind_at;
+use tables::layout::low_at;
+use tables::layout::put_gate;
+use tables::layout::put_input;
+use tables::layout::put_table;
+
+fn copy_inputs(from: &[u32], to: &mut [u32], f: usize, at: usize, n: usize)
+    requires { ⌜ Copies (now from) (now to) f at n ⌝ }
+    ensures { λ _. ⌜ now (to .exit) ≡ putInputs (now (to .entry)) at (inputsFrom (now (from .entry)) f) n ⌝ }
+{
+    let mut j: usize = 0;
+    while j < n {
+        put_input(to, at + j, input_at(from, f + j));
+        j += 1;
+    }
+}
+
+// Node v as it is.
+fn copy_gate(from: &[u32], to: &mut [u32], v: usize, at: usize) -> Pushed
+    requires { ⌜ Puts (now from) (now to) v at ⌝ }
+    ensures { λ r. ⌜ Grew (now (to .entry)) (now (to .exit)) v at (gateAt (now (from .entry)) v) r ⌝ }
+{
+    let n = count_at(from, v);
+    if 2048 - at < n {
+        return Pushed::Full;
+    }
+    copy_inputs(from, to, first_at(from, v), at, n);
+    put_gate(to, v, kind_at(from, v), at as u32, n as u32);
+    put_table(to, v, low_at(from, v), high_at(from, v));
+    Pushed::To(at + n)
+}
+
+// Node v merged, as the family's n-ary gate.
+fn merge_gate(from: &[u32], to: &mut [u32], v: usize, f: Family, limit: u32, at: usize) -> Pushed
+    requires { ⌜ Merges (now from) (now to) v at ⌝ }
+    ensures { λ r. ⌜ Grew (now (to .entry)) (now (to .exit)) v at (flatBy f (gateAt (now (to .entry))) limit (gateAt (now (from .entry)) v)) r ⌝ }
+{
+    let r = merge_dependencies(from, to, v, f, limit, at);
+    let Pushed::To(end) = r else {
+        return Pushed::Full;
+    };
+    put_gate(to, v, code(wide(f)), at as u32, (end - at) as u32);
+    put_table(to, v, 0, 0);
+    Pushed::To(end)
+}
+
+pub fn flatten_gate(from: &[u32], to: &mut [u32], v: usize, limit: u32, at: usize) -> Pushed
+    requires { ⌜ Flattens (now from) (now to) v at ⌝ }
+    ensures { λ r. ⌜ Grew (now (to .entry)) (now (to .exit)) v at (flatGate (gateAt (now (to .entry))) limit (gateAt (now (from .entry)) v)) r ⌝ }
+{
+    let k = kind_of(kind_at(from, v));
+    if is_and(k) {
+        return merge_gate(from, to, v, Family::And, limit, at);
+    }
+    if is_xor(k) {
+        return merge_gate(from, to, v, Family::Xor, limit, at);
+    }
+    copy_gate(from, to, v, at)
+}
