@@ -1,0 +1,24 @@
+use borrow.Author.Needs.{needs}
+use Rattle.share_logic.proofs.Staging.{stages}
+use Rattle.share_logic.proofs.Sharing.{shares}
+use Rattle.share_logic.proofs.factor.factor_gates.Statement.{statement}
+use Rattle.share_logic.proofs.factor.factor_gates.Tie as tie
+
+pub factor-gates-spec : {M : Type 1} → statement M
+factor-gates-spec =
+    tie.close
+    (tie.spec
+    (λ c κs. search needs)
+    (λ c. search needs)
+    (λ c. search needs)
+    (λ c. search needs)
+    (λ c κs. search (needs, stages, shares))
+    (λ c. search needs)
+    (λ c. search needs)
+    (λ c. search (needs, stages, shares))
+    (λ c. search needs)
+    (λ c. search needs)
+    (λ c. search (needs, stages, shares))
+    (λ c. search needs)
+    (λ c. search needs)
+    (λ c. search (needs, stages, shares)))

@@ -1,0 +1,20 @@
+use borrow.Author.Needs.{needs}
+use Rattle.share_logic.proofs.Staging.{stages}
+use Rattle.share_logic.proofs.Sharing.{shares}
+use Rattle.share_logic.proofs.factor.order.Statement.{statement}
+use Rattle.share_logic.proofs.factor.order.Tie as tie
+
+pub order-spec : {M : Type 1} → statement M
+order-spec =
+    tie.close
+    (tie.spec
+    (λ c κs. search needs)
+    (λ c. search needs)
+    (λ c. search needs)
+    (λ c κs. search (needs, stages, shares))
+    (λ c. search needs)
+    (λ c. search needs)
+    (λ c. search (needs, stages, shares))
+    (λ c. search needs)
+    (λ c. search needs)
+    (λ c. search (needs, stages, shares)))

@@ -1,0 +1,15 @@
+use borrow.Author.Needs.{needs}
+use Rattle.share_logic.proofs.Staging.{stages}
+use Rattle.share_logic.proofs.Sharing.{shares}
+use Rattle.share_logic.proofs.flatten_nary.clean.Statement.{statement}
+use Rattle.share_logic.proofs.flatten_nary.clean.Tie as tie
+
+pub clean-spec : {M : Type 1} → statement M
+clean-spec =
+    tie.close
+    (tie.spec
+    (λ c κs. search needs)
+    (λ c κs. search (needs, stages, shares))
+    (λ c. search needs)
+    (λ c. search needs)
+    (λ c. search (needs, stages, shares)))

@@ -1,0 +1,20 @@
+use borrow.Author.Needs.{needs}
+use Rattle.share_logic.proofs.Staging.{stages}
+use Rattle.share_logic.proofs.Sharing.{shares}
+use Rattle.share_logic.proofs.share_logic.Statement.{statement}
+use Rattle.share_logic.proofs.share_logic.Tie as tie
+
+pub share-logic-spec : {M : Type 1} → statement M
+share-logic-spec =
+    tie.close
+    (tie.spec
+    (λ c κs. search needs)
+    (λ c. search needs)
+    (λ c. search needs)
+    (λ c κs. search (needs, stages, shares))
+    (λ c. search needs)
+    (λ c. search needs)
+    (λ c. search (needs, stages, shares))
+    (λ c. search needs)
+    (λ c. search needs)
+    (λ c. search (needs, stages, shares)))
