@@ -27,7 +27,7 @@ use Rattle.topo_sort.specs.declared.Sorting.{Sorting}
 use Rattle.topo_sort.specs.declared.Sorting.the-variants.{Ordered, Looped}
 use Rattle.cleanup.specs.Marking.{Cleanable, Cleaned}
 use Rattle.lanternlean.specs.Works.{Passable, passed, cleanupPass, cleanupWork, sortPass, sortWork}
-use Rattle.load.proofs.Reads.{refused-is, network-holds, network-held, network-is}
+use Rattle.load.proofs.Loading.{refused-is, network-holds, network-held, network-is}
 
 -- a mapping in the words, by what the words are
 mapping-is : (from l : List ℕ) (c : Counts) (τ : ℕ → ℕ) → ((v : ℕ) → v < c .nodes → cell l trBase v ≡ τ v) → mappingIn l (c .nodes) ≡ mappingOf (size (networkOf from c)) τ

@@ -27,7 +27,7 @@ use Rattle.write.specs.Writing.{mappingIn, HeldMapped}
 use Rattle.dedup.specs.Lists.{normOf}
 use Rattle.dedup.specs.States.{Dedupable, Deduped}
 use Rattle.lanternlean.specs.Works.{dedupWork}
-use Rattle.load.proofs.Reads.{refused-is, network-passes, network-is, network-holds, network-held}
+use Rattle.load.proofs.Loading.{refused-is, network-passes, network-is, network-holds, network-held}
 
 module _ (can : Bool) (img l : List ℕ) (x : Loaded) (R : Read (sortedRefusalOf img) img l x) where
   pub dedup-refused : (out map : List ℕ) (n : ℕ) → x ≡ Refused n → Answered2 (dedupWork can img (length out) (length map)) out map (answers.Refused n) out map

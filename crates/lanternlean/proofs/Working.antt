@@ -11,7 +11,7 @@ use Rattle.model.specs.Answers.{written, inRoom}
 use Rattle.model.specs.Entries.{cycleOutcome}
 use Rattle.shape.proofs.Accepted.{accepted-sorted}
 use Rattle.load.specs.Images.{Read}
-use Rattle.load.proofs.Reads.{refused-is, network-passes, network-holds, network-held, network-is}
+use Rattle.load.proofs.Loading.{refused-is, network-passes, network-holds, network-held, network-is}
 use Rattle.load.specs.declared.Loaded.{Loaded}
 use Rattle.load.specs.declared.Loaded.the-variants.{Refused, Network}
 use Rattle.tables.specs.Holding.{networkOf}

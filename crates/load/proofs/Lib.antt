@@ -1,4 +1,4 @@
 pub mod Walks
 pub mod Loads
 pub mod Accepting
-pub mod Reads
+pub mod Loading

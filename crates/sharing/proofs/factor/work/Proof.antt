@@ -1,0 +1,19 @@
+use borrow.Author.Needs.{needs}
+use Rattle.sharing.proofs.Passing.{works}
+use Rattle.sharing.proofs.factor.work.Statement.{statement}
+use Rattle.sharing.proofs.factor.work.Tie as tie
+
+pub work-spec : {M : Type 1} → statement M
+work-spec =
+    tie.close
+    (tie.spec
+    (λ c κs. search needs)
+    (λ c. search needs)
+    (λ c. search needs)
+    (λ c κs. search (needs, works))
+    (λ c. search needs)
+    (λ c. search (needs, works))
+    (λ c. search needs)
+    (λ c. search needs)
+    (λ c. search needs)
+    (λ c. search (needs, works)))

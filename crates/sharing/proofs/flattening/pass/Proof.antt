@@ -1,0 +1,15 @@
+use borrow.Author.Needs.{needs}
+use Rattle.sharing.proofs.Passing.{passes}
+use Rattle.sharing.proofs.flattening.pass.Statement.{statement}
+use Rattle.sharing.proofs.flattening.pass.Tie as tie
+
+pub pass-spec : {M : Type 1} → statement M
+pass-spec =
+    tie.close
+    (tie.spec
+    (λ c κs. search needs)
+    (λ c κs. search (needs, passes))
+    (λ c. search needs)
+    (λ c. search needs)
+    (λ c. search needs)
+    (λ c. search (needs, passes)))
