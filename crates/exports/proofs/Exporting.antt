@@ -6,9 +6,9 @@ use native.Mathlib.Omega.{arith}
 use Rattle.answers.specs.Numbers.{lengthOf}
 use Rattle.answers.specs.declared.Answer.{Answer}
 use Rattle.model.specs.Answers.{Outcome, answerOf, Kept, Kept2}
-use Rattle.model.specs.Entries.{readOutcome, evaluateOutcome, canonicalOutcome, dedupOutcome, cleanupOutcome, sortOutcome}
+use Rattle.model.specs.Entries.{readOutcome, evaluateOutcome, canonicalOutcome, dedupOutcome, cleanupOutcome, sortOutcome, flattenOutcome, factorOutcome, shareOutcome}
 use Rattle.exports.specs.Packed.{packed, Exported, Exported2}
-use Rattle.exports.proofs.Small.{Small, small-read, small-evaluate, small-canonical, small-dedup, small-cleanup, small-sort}
+use Rattle.exports.proofs.Small.{Small, small-read, small-evaluate, small-canonical, small-dedup, small-cleanup, small-sort, small-flatten, small-factor, small-share}
 
 module _ (o : Outcome) (out a b : List ℕ) (r : Answer) (out′ a′ b′ : List ℕ) (K : Kept o out a b r out′ a′ b′) where
   fits : Small o → lengthOf r < 4294967296
@@ -51,4 +51,15 @@ module _ (img out mapping a b : List ℕ) (r : Answer) (out′ mapping′ a′ b
   pub sort-fits : Kept2 (sortOutcome img out mapping a b) out mapping a b r out′ mapping′ a′ b′ → lengthOf r < 4294967296
   sort-fits K = fits (sortOutcome img out mapping a b) out a b r out′ a′ b′ (K .first) (small-sort img out mapping a b)
 
-pub ruleset exports = (exported, exported2, read-fits, evaluate-fits, canonical-fits, dedup-fits, cleanup-fits, sort-fits)
+-- the entries of share_logic.rs
+module _ (img out a b : List ℕ) (r : Answer) (out′ a′ b′ : List ℕ) where
+  pub flatten-fits : (limit : ℕ) → Kept (flattenOutcome img out a b limit) out a b r out′ a′ b′ → lengthOf r < 4294967296
+  flatten-fits limit K = fits (flattenOutcome img out a b limit) out a b r out′ a′ b′ K (small-flatten img out a b limit)
+
+  pub factor-fits : Kept (factorOutcome img out a b) out a b r out′ a′ b′ → lengthOf r < 4294967296
+  factor-fits K = fits (factorOutcome img out a b) out a b r out′ a′ b′ K (small-factor img out a b)
+
+  pub share-fits : (limit : ℕ) → Kept (shareOutcome img out a b limit) out a b r out′ a′ b′ → lengthOf r < 4294967296
+  share-fits limit K = fits (shareOutcome img out a b limit) out a b r out′ a′ b′ K (small-share img out a b limit)
+
+pub ruleset exports = (exported, exported2, read-fits, evaluate-fits, canonical-fits, dedup-fits, cleanup-fits, sort-fits, flatten-fits, factor-fits, share-fits)

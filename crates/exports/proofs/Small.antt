@@ -5,23 +5,26 @@ use mathlib.Core.List.{List, []}
 use Prim.Native.Nat.{ℕ, zero, suc, _≤_, _<_}
 use native.Mathlib.Omega.{arith}
 use lib.ListN.{length}
-use lib.Dec.{eqb, leb}
-use borrow.Author.Tests.{eqb-true}
+use lib.Dec.{eqb, leb, ltb}
+use borrow.Author.Tests.{eqb-true, ltb-false}
 use Rattle.answers.specs.Numbers.{lengthOf}
-use Rattle.laws.proofs.Choices.{by-test}
-use Rattle.model.specs.Gate.{Net, Valid}
+use Rattle.laws.proofs.Choices.{by-bool, by-test}
+use Rattle.model.specs.Gate.{Net, Valid, isTopoSorted}
 use Rattle.model.specs.Image.{refusalOf, sortedRefusalOf, netOf, imageOf}
 use Rattle.model.specs.Answers.{Outcome, refused, written, evaluated, answerOf, areasShort, inAreas, inRoom, unless}
 use Rattle.model.specs.Evaluate.{cycleRefusal}
 use Rattle.model.specs.Normal.{makeCanonical}
 use Rattle.model.specs.Network.{asIs, sorts}
-use Rattle.model.specs.Entries.{readOutcome, evaluatedOf, cycleOutcome, evaluateOutcome, canonicalOutcome, dedupOutcome, cleanupOutcome, sortOutcome}
+use Rattle.model.specs.Sharing.{flattenedInputs, flattenNary, shareLogic}
+use Rattle.model.specs.Entries.{readOutcome, evaluatedOf, cycleOutcome, evaluateOutcome, canonicalOutcome, dedupOutcome, cleanupOutcome, sortOutcome, flattenOutcome, factorOutcome, shareOutcome}
 use Rattle.shape.proofs.Sizes.{image-length}
 use Rattle.shape.proofs.Valids.{valid-net}
 use Rattle.shape.proofs.Ladder.{sorted-at0}
 use Rattle.shape.proofs.Accepted.{accepted-sorted}
 use Rattle.shape.proofs.Cleanup.{cleanup-valid}
 use Rattle.shape.proofs.Sort.{sort-valid}
+use Rattle.shape.proofs.Flatten.{flatten-valid, flatten-sorted}
+use Rattle.shape.proofs.FactoringPass.{factor-valid}
 use Rattle.shape.proofs.Dedup.{dedup-valid}
 use Rattle.shape.proofs.DedupNormal.{NormLaw, asIs-law, canonical-law}
 
@@ -101,3 +104,36 @@ module _ (img out mapping a b : List ℕ) where
       (small-room (length out) (length mapping) _
       (small-unless (refusalOf img) _
       (λ e. by-test Small (sorts (netOf img)) (λ t. small-written _ (sort-valid (netOf img) (valid-net img e) t) _) (λ t. small-refused 8))))
+
+-- the entries of share_logic.rs
+module _ (img out a b : List ℕ) where
+  valid-flat : (limit : ℕ) → sortedRefusalOf img ≡ 0 → _≡_ {A = ℕ} (cond (ltb 2048 (flattenedInputs (netOf img) limit)) 10 0) 0
+      → Valid (flattenNary (netOf img) limit) × (isTopoSorted (flattenNary (netOf img) limit) ≡ true)
+  valid-flat limit e z = by-bool (ltb 2048 (flattenedInputs (netOf img) limit))
+      (λ t. absurd (omega (arith, rw t at z)))
+      (λ t.
+      let few = ltb-false 2048 (flattenedInputs (netOf img) limit) t in
+      (flatten-valid (netOf img) limit (valid-sorted img e) (accepted-sorted img e) few, flatten-sorted (netOf img) limit (valid-sorted img e) (accepted-sorted img e) few))
+
+  pub small-flatten : (limit : ℕ) → Small (flattenOutcome img out a b limit)
+  unfolding flattenOutcome
+  small-flatten limit =
+      small-areas a b _
+      (small-room (length out) 0 _ (small-unless (sortedRefusalOf img) _ (λ e. small-unless _ _ (λ z. small-written _ (valid-flat limit e z .0) _))))
+
+  pub small-factor : Small (factorOutcome img out a b)
+  unfolding factorOutcome
+  small-factor =
+      small-areas a b _
+      (small-room (length out) 0 _
+      (small-unless (sortedRefusalOf img) _
+      (λ e. small-unless _ _ (λ y. small-unless _ _ (λ z. small-written _ (factor-valid (netOf img) (valid-sorted img e) (accepted-sorted img e) z) _)))))
+
+  pub small-share : (limit : ℕ) → Small (shareOutcome img out a b limit)
+  unfolding shareOutcome shareLogic
+  small-share limit =
+      small-areas a b _
+      (small-room (length out) 0 _
+      (small-unless (sortedRefusalOf img) _
+      (λ e. small-unless _ _
+      (λ y. small-unless _ _ (λ z. small-written _ (factor-valid (flattenNary (netOf img) limit) (valid-flat limit e y .0) (valid-flat limit e y .1) z) _)))))

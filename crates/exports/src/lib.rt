@@ -4,7 +4,7 @@ ghost use Prim.Native.Nat.{ℕ, _<_};
 ghost use lib.ListN.{length};
 ghost use Rattle.answers.specs.Numbers.{lengthOf};
 ghost use Rattle.model.specs.Image.{recordOf, recordAtOf};
-ghost use Rattle.model.specs.Entries.{readOutcome, evaluateOutcome, canonicalOutcome, dedupOutcome, cleanupOutcome, sortOutcome};
+ghost use Rattle.model.specs.Entries.{readOutcome, evaluateOutcome, canonicalOutcome, dedupOutcome, cleanupOutcome, sortOutcome, flattenOutcome, factorOutcome, shareOutcome};
 ghost use Rattle.exports.specs.Packed.{packed, Exported, Exported2};
 use answers::Answer;
 
@@ -73,6 +73,39 @@ pub extern "C" fn ll_sort(
     ensures { λ r. ⌜ Exported2 (sortOutcome (now (image .entry)) (now (out .entry)) (now (map .entry)) (now (a .entry)) (now (b .entry))) (now (out .entry)) (now (map .entry)) (now (a .entry)) (now (b .entry)) r (now (out .exit)) (now (map .exit)) (now (a .exit)) (now (b .exit)) ⌝ }
 {
     pack(lanternlean::sort::sort(image, out, map, a, b))
+}
+
+#[no_mangle]
+pub extern "C" fn ll_flatten(
+    image: &[u8],
+    limit: u32,
+    out: &mut [u8],
+    a: &mut [u32],
+    b: &mut [u32],
+) -> u64
+    ensures { λ r. ⌜ Exported (flattenOutcome (now (image .entry)) (now (out .entry)) (now (a .entry)) (now (b .entry)) limit) (now (out .entry)) (now (a .entry)) (now (b .entry)) r (now (out .exit)) (now (a .exit)) (now (b .exit)) ⌝ }
+{
+    pack(sharing::flattening::flatten(image, limit, out, a, b))
+}
+
+#[no_mangle]
+pub extern "C" fn ll_factor(image: &[u8], out: &mut [u8], a: &mut [u32], b: &mut [u32]) -> u64
+    ensures { λ r. ⌜ Exported (factorOutcome (now (image .entry)) (now (out .entry)) (now (a .entry)) (now (b .entry))) (now (out .entry)) (now (a .entry)) (now (b .entry)) r (now (out .exit)) (now (a .exit)) (now (b .exit)) ⌝ }
+{
+    pack(sharing::factor::factor(image, out, a, b))
+}
+
+#[no_mangle]
+pub extern "C" fn ll_share(
+    image: &[u8],
+    limit: u32,
+    out: &mut [u8],
+    a: &mut [u32],
+    b: &mut [u32],
+) -> u64
+    ensures { λ r. ⌜ Exported (shareOutcome (now (image .entry)) (now (out .entry)) (now (a .entry)) (now (b .entry)) limit) (now (out .entry)) (now (a .entry)) (now (b .entry)) r (now (out .exit)) (now (a .exit)) (now (b .exit)) ⌝ }
+{
+    pack(sharing::share::share(image, limit, out, a, b))
 }
 
 #[no_mangle]

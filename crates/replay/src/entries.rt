@@ -17,6 +17,9 @@ use lanternlean::read::read;
 use lanternlean::record::record;
 use lanternlean::record::record_at;
 use lanternlean::sort::sort;
+use sharing::factor::factor;
+use sharing::flattening::flatten;
+use sharing::share::share;
 
 // The codes of docs/RECORDED.md, below CODES.
 const READ: u32 = 0;
@@ -28,6 +31,12 @@ const DEDUP: u32 = 2;
 const CLEANUP: u32 = 3;
 
 const SORT: u32 = 4;
+
+const FLATTEN: u32 = 5;
+
+const FACTOR: u32 = 6;
+
+const SHARE: u32 = 7;
 
 const EVALUATE: u32 = 8;
 
@@ -43,6 +52,9 @@ pub fn file_name(entry: u32, path: &mut [u8]) -> usize {
         DEDUP => put(b"dedup.bin", path),
         CLEANUP => put(b"cleanup.bin", path),
         SORT => put(b"sort.bin", path),
+        FLATTEN => put(b"flatten.bin", path),
+        FACTOR => put(b"factor.bin", path),
+        SHARE => put(b"share.bin", path),
         EVALUATE => put(b"evaluate.bin", path),
         RECORD => put(b"record.bin", path),
         _ => 0,
@@ -74,6 +86,9 @@ pub fn run(
         DEDUP => answered(dedup(image, out, map, a, b)),
         CLEANUP => answered(cleanup(image, out, map, a, b)),
         SORT => answered(sort(image, out, map, a, b)),
+        FLATTEN => answered(flatten(image, word(recorded, K), out, a, b)),
+        FACTOR => answered(factor(image, out, a, b)),
+        SHARE => answered(share(image, word(recorded, K), out, a, b)),
         EVALUATE => {
             let inputs = part(recorded, INPUTS);
             answered(evaluate(image, inputs, state, outputs, a, b))

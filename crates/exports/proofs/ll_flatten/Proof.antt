@@ -1,0 +1,15 @@
+use Rattle.exports.proofs.Exporting.{exports}
+use borrow.Author.Needs.{needs}
+use Rattle.exports.proofs.ll_flatten.Statement.{statement}
+use Rattle.exports.proofs.ll_flatten.Tie as tie
+
+pub ll-flatten-spec : {M : Type 1} → statement M
+ll-flatten-spec =
+    tie.close
+    (tie.spec
+    (λ c κs. search needs)
+    (λ c κs. search (needs, exports))
+    (λ c. search needs)
+    (λ c. search needs)
+    (λ c. search needs)
+    (λ c. search (needs, exports)))
