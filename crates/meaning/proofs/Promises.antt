@@ -1,0 +1,238 @@
+-- THE PROMISES on one page: each in words, then exactly, then its proof from the files beside this one.
+--
+-- `(x : A) → P` says: for every x of A, P. `P → Q`: if P, then Q. `P × Q`: P and Q. `P ↔ Q`: P exactly when Q. `a ≡ b`: a is b.
+-- What a line `module _ ..` supposes is supposed in all that is set in below it. A line that begins with the name of the statement above
+-- it is that statement's proof. The words are defined in crates/model/specs, the main ones these:
+--   netOf img, imageOf N     the network that an image holds; the image of a network
+--   Valid, isTopoSorted      what an image's network is when the numbers 2 to 6, and 7, are not met
+--   runFromZero N is         the outputs of every cycle, the flip-flops starting at zero; `is` has the inputs of each cycle, as many
+--                            cycles as one likes. `run N st is` starts from the states st
+--   Kept                     the contract of every entry: its answer r, and the slices at exit (out′ a′ b′) from those at entry
+use mathlib.Core.Path.{_≡_, sym, _∙_}
+use mathlib.Core.Logic.{_↔_}
+use Prim.Native.Nat.{ℕ, _≤_, _<_}
+use native.Mathlib.Nat.{le-refl}
+use mathlib.Core.Bool.{Bool, true, false}
+use mathlib.Core.List.{List, [], map}
+use lib.ListN.{length, take}
+use Rattle.answers.specs.declared.Answer.{Answer}
+use Rattle.answers.specs.declared.Answer.the-variants.{Accepted}
+use Rattle.kinds.specs.Kinds.{kindOf}
+use Rattle.kinds.specs.declared.Family.{Family}
+use Rattle.laws.specs.Bools.{bit}
+use Rattle.laws.specs.Lists.{All}
+use Rattle.model.specs.Gate.{Gate, Net, Valid, combs, isTopoSorted, size}
+use Rattle.model.specs.Normal.{makeCanonical}
+use Rattle.model.specs.Network.{Cycle, Reach, asIs, canonical, cleanup, cleanupOrder, dedupMap, deduplicate, sorts, topoOrder, topoSort, translation}
+use Rattle.model.specs.Sharing.{anyRepeats, factorNary, factorRefusal, flattenNary, flattenedInputs, inside, isSimple, shareLogic, weights}
+use Rattle.model.specs.Image.{Bytes, bodyOf, imageOf, netOf, refusalOf, sortedRefusalOf}
+use Rattle.model.specs.Evaluate.{Eval, Solves, after, afterBy, allZero, at, evaluate, run, runBy, runFromZero, signalValue, truth, truths}
+use Rattle.model.specs.Answers.{Kept, areasShort}
+use Rattle.model.specs.Entries.{calls, factorOutcome, flattenOutcome, shareOutcome}
+use Rattle.shape.specs.Forms.{Kept as Stands}
+use Rattle.shape.proofs.Cleanup.{cleanup-combs, kept-reach, reach-kept, removed-zero}
+use Rattle.shape.proofs.Dedup.{dedup-combs}
+use Rattle.shape.proofs.DedupNormal.{asIs-law, canonical-law}
+use Rattle.shape.proofs.Loops.{cycle-unsorted, unsorted-cycle}
+use Rattle.shape.proofs.RoundTrips.{read-written, written-read}
+use Rattle.shape.proofs.Sort.{sort-combs}
+use Rattle.meaning.proofs.Accepted.{kept-accepts}
+use Rattle.meaning.proofs.Calls.{Good, calls-run, given}
+use Rattle.meaning.proofs.Cases.{Cases, cases}
+use Rattle.meaning.proofs.CleanupRuns.{cleanup-probe, cleanup-runs-from}
+use Rattle.meaning.proofs.DedupRuns.{canonical-probe, canonical-runs, deduplicate-probe, deduplicate-runs}
+use Rattle.meaning.proofs.FlattenRuns.{flatten-runs}
+use Rattle.meaning.proofs.PromisedImages.{Wrote, factor-wrote, flatten-wrote, share-writes, share-wrote}
+use Rattle.meaning.proofs.RemapRuns.{carry}
+use Rattle.meaning.proofs.ShareForms.{share-bound, share-simple, share-two}
+use Rattle.meaning.proofs.ShareRuns.{factor-runs, share-runs}
+use Rattle.meaning.proofs.SortRuns.{sort-probe, sort-runs-from, sort-solves}
+
+-- ---- 1. Flatten, factor and share, of networks that are valid and sorted
+
+module _ (N : Net) (valid : Valid N) (sorted : isTopoSorted N ≡ true) where
+  -- Flatten, with any limit, where gate inputs do not pass 2,048 (number 10): the same outputs in every cycle.
+  pub flatten-same-outputs : (limit : ℕ) → flattenedInputs N limit ≤ 2048 → (is : List (List Bool)) → runFromZero N is ≡ runFromZero (flattenNary N limit) is
+  flatten-same-outputs limit not-10 is = flatten-runs N limit valid sorted not-10 is
+
+  -- Factor, where no And lists a signal twice (9) and neither pass meets 11 or 12: the same outputs in every cycle.
+  pub factor-same-outputs : anyRepeats (N .nodes) ≡ false → factorRefusal N ≡ 0 → (is : List (List Bool)) → runFromZero N is ≡ runFromZero (factorNary N) is
+  factor-same-outputs not-9 not-11-12 is = factor-runs N valid sorted not-9 not-11-12 is
+
+  -- Share, with any limit, where flattening does not meet 10, and factoring what was flattened neither 11 nor 12:
+  module _ (limit : ℕ) (not-10 : flattenedInputs N limit ≤ 2048) (not-11-12 : factorRefusal (flattenNary N limit) ≡ 0) where
+    -- the same outputs in every cycle;
+    pub share-same-outputs : (is : List (List Bool)) → runFromZero N is ≡ runFromZero (shareLogic N limit) is
+    share-same-outputs is = share-runs N limit valid sorted not-10 not-11-12 is
+
+    -- every gate is an And2, Xor2, Maj, Mux, Dff or Lut;
+    pub share-simple-gates : All (λ (g : Gate). isSimple (kindOf (g .kind)) ≡ true) (shareLogic N limit .nodes)
+    share-simple-gates = share-simple N limit valid sorted not-10 not-11-12
+
+    -- every And, and every Xor, has two inputs;
+    pub share-two-inputs : (f : Family) → All (λ (g : Gate). inside f g ≡ true → length (g .ins) ≡ 2) (shareLogic N limit .nodes)
+    share-two-inputs = share-two N limit valid sorted not-10 not-11-12
+
+    -- no more combinational gates than the flattened network weighs: inputs less one for And and Xor, one for each other gate.
+    pub share-gate-bound : combs (shareLogic N limit .nodes) ≤ weights (flattenNary N limit .nodes)
+    share-gate-bound = share-bound N limit valid sorted not-10 not-11-12
+
+-- ---- 2. The entries flatten, factor and share, from their contracts: of any image, buffers and areas
+
+-- What share needs to accept: that none of its numbers is met.
+pub record NoneMet (img out a b : List ℕ) (limit : ℕ) : Type 0 where
+  pub not-1 : areasShort a b ≡ false
+  pub not-2-to-7 : sortedRefusalOf img ≡ 0
+  pub not-10 : flattenedInputs (netOf img) limit ≤ 2048
+  pub not-11-12 : factorRefusal (flattenNary (netOf img) limit) ≡ 0
+  pub not-13 : length (imageOf (shareLogic (netOf img) limit)) ≤ length out
+
+-- Share was called with img, out, a, b and a limit, and answered r:
+module _ (img out a b : List ℕ) (limit : ℕ) (r : Answer) (out′ a′ b′ : List ℕ) (call : Kept (shareOutcome img out a b limit) out a b r out′ a′ b′) where
+  -- where none of its numbers is met it accepts, answering the length of the image of the shared network, and nowhere else.
+  pub share-accepts : NoneMet img out a b limit → r ≡ Accepted (length (imageOf (shareLogic (netOf img) limit)))
+  share-accepts m =
+      kept-accepts _ _ [] _ (share-writes img out a b limit) out a b r out′ a′ b′ call
+      (record { areas = m .not-1; source = m .not-2-to-7; pass = (m .not-10, m .not-11-12); image-fits = m .not-13; mapping-fits = le-refl 0 })
+
+  -- It accepted with length n. The image that it wrote is the first n bytes of out:
+  module _ (n : ℕ) (accepts : r ≡ Accepted n) where
+    wrote : Wrote img ((flattenedInputs (netOf img) limit ≤ 2048) × (factorRefusal (flattenNary (netOf img) limit) ≡ 0)) (shareLogic (netOf img) limit) n out′
+    wrote = share-wrote img out a b r out′ a′ b′ n accepts limit call
+
+    pub share-accepts-only : NoneMet img out a b limit
+    share-accepts-only =
+        let p = share-writes img out a b limit .asks n (sym (call .answer) ∙ accepts) in
+        record { not-1 = p .areas; not-2-to-7 = p .source; not-10 = p .pass .0; not-11-12 = p .pass .1; not-13 = p .image-fits }
+
+    -- it is accepted in turn, by every entry that asks for a sorted image;
+    pub share-image-accepted : sortedRefusalOf (take n out′) ≡ 0
+    share-image-accepted = wrote .accepted
+
+    -- running it is running the image that was taken: the same outputs in every cycle;
+    pub share-image-same-outputs : (is : List (List Bool)) → runFromZero (netOf img) is ≡ runFromZero (netOf (take n out′)) is
+    share-image-same-outputs is = let w = wrote in rw (w .net) (share-same-outputs (netOf img) (w .valid) (w .sorted) limit (w .pass .0) (w .pass .1) is)
+
+    -- its gates are simple, its Ands and Xors have two inputs, and they are no more than the flattened network of img weighs.
+    pub share-image-simple-gates : All (λ (g : Gate). isSimple (kindOf (g .kind)) ≡ true) (netOf (take n out′) .nodes)
+    share-image-simple-gates = let w = wrote in rw (w .net) (share-simple-gates (netOf img) (w .valid) (w .sorted) limit (w .pass .0) (w .pass .1))
+
+    pub share-image-two-inputs : (f : Family) → All (λ (g : Gate). inside f g ≡ true → length (g .ins) ≡ 2) (netOf (take n out′) .nodes)
+    share-image-two-inputs f = let w = wrote in rw (w .net) (share-two-inputs (netOf img) (w .valid) (w .sorted) limit (w .pass .0) (w .pass .1) f)
+
+    pub share-image-gate-bound : combs (netOf (take n out′) .nodes) ≤ weights (flattenNary (netOf img) limit .nodes)
+    share-image-gate-bound = let w = wrote in rw (w .net) (share-gate-bound (netOf img) (w .valid) (w .sorted) limit (w .pass .0) (w .pass .1))
+
+-- Flatten or factor was called, and accepted with length n: its image is accepted, and has the same outputs in every cycle.
+module _ (img out a b : List ℕ) (r : Answer) (out′ a′ b′ : List ℕ) (n : ℕ) (accepts : r ≡ Accepted n) where
+  module _ (limit : ℕ) (call : Kept (flattenOutcome img out a b limit) out a b r out′ a′ b′) where
+    pub flatten-image-accepted : sortedRefusalOf (take n out′) ≡ 0
+    flatten-image-accepted = flatten-wrote img out a b r out′ a′ b′ n accepts limit call .accepted
+
+    pub flatten-image-same-outputs : (is : List (List Bool)) → runFromZero (netOf img) is ≡ runFromZero (netOf (take n out′)) is
+    flatten-image-same-outputs is =
+        let w = flatten-wrote img out a b r out′ a′ b′ n accepts limit call in
+        rw (w .net) (flatten-same-outputs (netOf img) (w .valid) (w .sorted) limit (w .pass) is)
+
+  module _ (call : Kept (factorOutcome img out a b) out a b r out′ a′ b′) where
+    pub factor-image-accepted : sortedRefusalOf (take n out′) ≡ 0
+    factor-image-accepted = factor-wrote img out a b r out′ a′ b′ n accepts call .accepted
+
+    pub factor-image-same-outputs : (is : List (List Bool)) → runFromZero (netOf img) is ≡ runFromZero (netOf (take n out′)) is
+    factor-image-same-outputs is =
+        let w = factor-wrote img out a b r out′ a′ b′ n accepts call in
+        rw (w .net) (factor-same-outputs (netOf img) (w .valid) (w .sorted) (w .pass .0) (w .pass .1) is)
+
+-- ---- 3. The other passes. Each writes a mapping, a signal of the result for each old node; no pass leaves more combinational gates
+
+-- In the cycle with inputs i, after cycles with inputs `is` from the states st: the value of signal s, and of node n.
+abbrev signalIn : Net → (ℕ → Bool) → List (List Bool) → List Bool → ℕ → Bool
+signalIn N st is i s = signalValue (at i) (evaluate N (at i) (after N st is)) s
+
+abbrev nodeIn : Net → (ℕ → Bool) → List (List Bool) → List Bool → ℕ → Bool
+nodeIn N st is i n = evaluate N (at i) (after N st is) n
+
+module _ (N : Net) (valid : Valid N) (sorted : isTopoSorted N ≡ true) where
+  -- Canonical, from zero: the same outputs in every cycle, and the mapped signal has each old node's value.
+  pub canonical-same-outputs : (is : List (List Bool)) → runFromZero N is ≡ runFromZero (canonical N) is
+  canonical-same-outputs is = canonical-runs N valid sorted is
+
+  pub canonical-mapping : (is : List (List Bool)) (i : List Bool) (n : ℕ) → n < size N → signalIn (canonical N) allZero is i (dedupMap makeCanonical N n) ≡ nodeIn N allZero is i n
+  canonical-mapping = canonical-probe N valid sorted
+
+  pub canonical-no-more-gates : combs (canonical N .nodes) ≤ combs (N .nodes)
+  canonical-no-more-gates = dedup-combs makeCanonical canonical-law N valid sorted
+
+  -- Dedup, from zero: likewise.
+  pub dedup-same-outputs : (is : List (List Bool)) → runFromZero N is ≡ runFromZero (deduplicate N) is
+  dedup-same-outputs is = deduplicate-runs N valid sorted is
+
+  pub dedup-mapping : (is : List (List Bool)) (i : List Bool) (n : ℕ) → n < size N → signalIn (deduplicate N) allZero is i (dedupMap asIs N n) ≡ nodeIn N allZero is i n
+  dedup-mapping = deduplicate-probe N valid sorted
+
+  pub dedup-no-more-gates : combs (deduplicate N .nodes) ≤ combs (N .nodes)
+  dedup-no-more-gates = dedup-combs asIs asIs-law N valid sorted
+
+  -- Cleanup, from any states st, carried to the nodes that are kept: the same outputs in every cycle, and the mapped signal has the
+  -- value of each old node that outputs reach.
+  pub cleanup-same-outputs : (st : ℕ → Bool) (is : List (List Bool)) → run N st is ≡ run (cleanup N) (carry (cleanupOrder N) st) is
+  cleanup-same-outputs = cleanup-runs-from N valid sorted
+
+  pub cleanup-mapping : (st : ℕ → Bool) (is : List (List Bool)) (i : List Bool) (n : ℕ) → Reach N n → signalIn (cleanup N) (carry (cleanupOrder N) st) is i (translation (size N) (cleanupOrder N) n) ≡ nodeIn N st is i n
+  cleanup-mapping = cleanup-probe N valid sorted
+
+module _ (N : Net) (valid : Valid N) where
+  -- Cleanup of any network, sorted or not, keeps exactly what outputs reach, and maps the rest to zero.
+  pub cleanup-keeps : (v : ℕ) → Stands (cleanupOrder N) v ↔ Reach N v
+  cleanup-keeps v = (kept-reach N (valid .signals) v, reach-kept N (valid .signals) v)
+
+  pub cleanup-removes : (v : ℕ) → (Reach N v → ⊥) → translation (size N) (cleanupOrder N) v ≡ 0
+  cleanup-removes = removed-zero N (valid .signals)
+
+  pub cleanup-no-more-gates : combs (cleanup N .nodes) ≤ combs (N .nodes)
+  cleanup-no-more-gates = cleanup-combs N valid
+
+  -- Sort fails, with 8, exactly where a path of combinational gates returns to where it began.
+  pub sort-fails : (sorts N ≡ false) ↔ Cycle N
+  sort-fails = (unsorted-cycle N (valid .signals), cycle-unsorted N (valid .signals))
+
+  -- Where it does not, there is a way `ev` to give each node a value that all gates agree with; by every such way, and from any states st,
+  -- carried to their new numbers: the same outputs in every cycle, and the mapped signal has each old node's value.
+  pub unsorted-has-values : sorts N ≡ true → (ev : Eval) × Solves N ev
+  unsorted-has-values no-loop = (_, sort-solves N valid no-loop)
+
+  module _ (no-loop : sorts N ≡ true) (ev : Eval) (agrees : Solves N ev) where
+    pub sort-same-outputs : (st : ℕ → Bool) (is : List (List Bool)) → runBy N ev st is ≡ run (topoSort N) (carry (topoOrder N) st) is
+    sort-same-outputs = sort-runs-from N valid no-loop ev agrees
+
+    pub sort-mapping : (st : ℕ → Bool) (is : List (List Bool)) (i : List Bool) (n : ℕ) → n < size N → signalIn (topoSort N) (carry (topoOrder N) st) is i (translation (size N) (topoOrder N) n) ≡ ev (at i) (afterBy N ev st is) n
+    sort-mapping = sort-probe N valid no-loop ev agrees
+
+  pub sort-no-more-gates : sorts N ≡ true → combs (topoSort N .nodes) ≤ combs (N .nodes)
+  sort-no-more-gates = sort-combs N valid
+
+-- ---- 4. Images and calls
+
+-- What is written of a valid network is read as that network, and is accepted.
+pub reading-what-was-written : (N : Net) → Valid N → netOf (imageOf N) ≡ N
+reading-what-was-written N valid = read-written N valid .same
+
+pub written-is-accepted : (N : Net) → Valid N → refusalOf (imageOf N) ≡ 0
+written-is-accepted N valid = read-written N valid .accepted
+
+-- What is read of an image of bytes that is accepted is valid, and is written as that image without its prefix.
+pub accepted-is-valid : (img : List ℕ) → Bytes img → refusalOf img ≡ 0 → Valid (netOf img)
+accepted-is-valid img bytes accepted = written-read img bytes accepted .valid
+
+pub writing-what-was-read : (img : List ℕ) → Bytes img → refusalOf img ≡ 0 → imageOf (netOf img) ≡ bodyOf img
+writing-what-was-read img bytes accepted = written-read img bytes accepted .same
+
+-- Evaluate called once for each of the input vectors xs, each time with the states that the call before left: as long as the calls accept,
+-- the bytes that they write are those of a run of the image's network from the first states.
+pub calls-are-a-run : (img : List ℕ) (xs : List (List ℕ)) (state out a b : List ℕ) → All Good (calls img xs state out a b)
+    → map given (calls img xs state out a b) ≡ map (map bit) (run (netOf img) (truths state) (map (map truth) xs))
+calls-are-a-run = calls-run
+
+-- The cases marked P of document 01, as one list (Cases).
+pub cases-marked-P : Cases
+cases-marked-P = cases
