@@ -1,28 +1,35 @@
 -- What each entry that accepts wrote: the image of the pass's result, where the pass was not refused, and accepted in turn.
 use mathlib.Core.Path.{_≡_, refl, sym, ap, _∙_}
-use Prim.Native.Nat.{ℕ, suc, _≤_}
+use Prim.Native.Nat.{ℕ, suc, _≤_, _<_}
 use native.Mathlib.Omega.{arith}
 use mathlib.Core.Bool.{Bool, true, false, cond}
 use mathlib.Core.List.{List, []}
-use lib.ListN.{length, take}
+use lib.ListN.{length, getD, take}
+use lib.Seq.{getD-take}
 use lib.Dec.{ltb}
 use borrow.Author.Tests.{ltb-false, le-ltb}
 use Rattle.answers.specs.declared.Answer.{Answer}
 use Rattle.answers.specs.declared.Answer.the-variants.{Accepted}
-use Rattle.model.specs.Gate.{Net, Valid, isTopoSorted, size}
-use Rattle.model.specs.Normal.{makeCanonical}
-use Rattle.model.specs.Network.{translation, mappingOf, deduplicate, canonical, dedupMap, asIs, cleanupOrder, cleanup, topoOrder, topoSort, sorts}
+use Rattle.laws.proofs.Tabs.{length-tab, getD-tab}
+use Rattle.model.specs.Gate.{Gate, Net, Valid, isTopoSorted, size}
+use Rattle.model.specs.Normal.{Norm, makeCanonical}
+use Rattle.model.specs.Network.{Reach, translation, mappingOf, deduplicate, canonical, dedupWith, dedupMap, asIs, cleanupOrder, cleanup, topoOrder, topoSort, sorts}
 use Rattle.model.specs.Sharing.{flattenNary, flattenedInputs, factorNary, factorRefusal, anyRepeats, shareLogic}
 use Rattle.model.specs.Image.{Bytes, refusalOf, sortedRefusalOf, netOf, imageOf}
-use Rattle.model.specs.Answers.{Outcome, written, inAreas, inRoom, unless, Kept}
+use Rattle.model.specs.Answers.{Outcome, written, inAreas, inRoom, unless, Kept, Kept2}
 use Rattle.model.specs.Entries.{readOutcome, canonicalOutcome, dedupOutcome, cleanupOutcome, sortOutcome, flattenOutcome, factorOutcome, shareOutcome}
 use Rattle.shape.proofs.RoundTrips.{read-written}
 use Rattle.shape.proofs.Accepted.{accepted-sorted}
 use Rattle.shape.proofs.Valids.{valid-net}
 use Rattle.shape.proofs.Ladder.{sorted-at0}
+use Rattle.shape.proofs.DedupNormal.{asIs-law, canonical-law}
+use Rattle.shape.proofs.Dedup.{dedup-valid}
+use Rattle.shape.proofs.Cleanup.{cleanup-order, cleanup-valid, reach-kept}
+use Rattle.shape.proofs.Remap.{kept-inside}
+use Rattle.shape.proofs.Sort.{sort-valid}
 use Rattle.shape.proofs.Flatten.{flatten-valid, flatten-sorted}
 use Rattle.shape.proofs.FactoringPass.{factor-valid, factor-sorted}
-use Rattle.meaning.proofs.Accepted.{Writes, Passes, Found, kept-found, writes-written, writes-unless, writes-if, writes-entry}
+use Rattle.meaning.proofs.Accepted.{Writes, Passes, Found, kept-found, kept2-found, writes-written, writes-unless, writes-if, writes-entry}
 
 -- ---- the outcomes, each with what it takes to accept
 
@@ -194,3 +201,61 @@ module _ (img out a b : List ℕ) (r : Answer) (out′ a′ b′ : List ℕ) (n 
   share-wrote limit k =
       found-wrote img _ _ (λ v s c. (share-valid (netOf img) limit v s (c .0) (c .1), share-sorted (netOf img) limit v s (c .0) (c .1))) a b [] (length out) 0 n out′
       (kept-found _ _ [] _ (share-writes img out a b limit) out a b r out′ a′ b′ k n e)
+
+-- ---- the entries that write a mapping, from their contracts
+
+-- the words of a mapping that was written
+pub map-word : (k : ℕ) (τ : ℕ → ℕ) (map′ : List ℕ) → take (length (mappingOf k τ)) map′ ≡ mappingOf k τ → (v : ℕ) → v < k → getD map′ v 0 ≡ τ v
+map-word k τ map′ e v h =
+    let l : length (mappingOf k τ) ≡ k = length-tab τ k in
+    sym (getD-take (length (mappingOf k τ)) map′ v 0 (omega arith)) ∙ ap (λ (m : List ℕ). getD m v 0) e ∙ getD-tab τ k v 0 h
+
+-- what outputs reach is one of the nodes
+pub reach-inside : (N : Net) → Valid N → (v : ℕ) → Reach N v → v < size N
+reach-inside N A v r = kept-inside N (cleanupOrder N) (cleanup-order N (A .signals)) v (reach-kept N (A .signals) v r)
+
+-- what it took, the image of N′ that it wrote, and the mapping's words
+pub record WroteMapped (img : List ℕ) (k : ℕ) (C : Type 0) (N′ : Net) (τ : ℕ → ℕ) (n : ℕ) (out′ map′ : List ℕ) : Type 0 where
+  pub source : k ≡ 0
+  pub valid : Valid (netOf img)
+  pub pass : C
+  pub holds : Holds (take n out′) N′
+  pub words : (v : ℕ) → v < size (netOf img) → getD map′ v 0 ≡ τ v
+
+module _ (img out map a b : List ℕ) (r : Answer) (out′ map′ a′ b′ : List ℕ) (n : ℕ) (e : r ≡ Accepted n) where
+  -- an entry with the outcome o, the image's numbers k, the result N′ and the mapping τ
+  found-mapped : (o : Outcome) (k : ℕ) (C : Type 0) (N′ : Net) (τ : ℕ → ℕ)
+      → Writes o (imageOf N′) (mappingOf (size (netOf img)) τ) (Mapped img out map a b k C N′ τ)
+      → (k ≡ 0 → Valid (netOf img)) → (k ≡ 0 → Valid (netOf img) → C → Valid N′) → Kept2 o out map a b r out′ map′ a′ b′ → WroteMapped img k C N′ τ n out′ map′
+  found-mapped o k C N′ τ w ok good c =
+      let f = kept2-found o _ _ _ w out a b r out′ a′ b′ map map′ c n e in
+      let p = f .0 .held in
+      let v = ok (p .source) in
+      record {
+        source = p .source;
+        valid = v;
+        pass = p .pass;
+        holds = image-holds (take n out′) N′ (good (p .source) v (p .pass)) (f .0 .there);
+        words = map-word (size (netOf img)) τ map′ (f .1);
+      }
+
+  abbrev WroteDedup : (Gate → Norm) → Type 0
+  WroteDedup norm = WroteMapped img (sortedRefusalOf img) Unit (dedupWith norm (netOf img)) (dedupMap norm (netOf img)) n out′ map′
+
+  pub canonical-wrote : Kept2 (canonicalOutcome img out map a b) out map a b r out′ map′ a′ b′ → WroteDedup makeCanonical
+  canonical-wrote =
+      found-mapped _ _ _ _ _ (canonical-writes img out map a b) (source-valid img)
+      (λ z v c. dedup-valid makeCanonical canonical-law (netOf img) v (source-sorted img z))
+
+  pub dedup-wrote : Kept2 (dedupOutcome img out map a b) out map a b r out′ map′ a′ b′ → WroteDedup asIs
+  dedup-wrote =
+      found-mapped _ _ _ _ _ (dedup-writes img out map a b) (source-valid img)
+      (λ z v c. dedup-valid asIs asIs-law (netOf img) v (source-sorted img z))
+
+  pub cleanup-wrote : Kept2 (cleanupOutcome img out map a b) out map a b r out′ map′ a′ b′
+      → WroteMapped img (refusalOf img) Unit (cleanup (netOf img)) (translation (size (netOf img)) (cleanupOrder (netOf img))) n out′ map′
+  cleanup-wrote = found-mapped _ _ _ _ _ (cleanup-writes img out map a b) (valid-net img) (λ z v c. cleanup-valid (netOf img) v)
+
+  pub sort-wrote : Kept2 (sortOutcome img out map a b) out map a b r out′ map′ a′ b′
+      → WroteMapped img (refusalOf img) (sorts (netOf img) ≡ true) (topoSort (netOf img)) (translation (size (netOf img)) (topoOrder (netOf img))) n out′ map′
+  sort-wrote = found-mapped _ _ _ _ _ (sort-writes img out map a b) (valid-net img) (λ z v c. sort-valid (netOf img) v c)

@@ -14,7 +14,7 @@ use Prim.Native.Nat.{ℕ, _≤_, _<_}
 use native.Mathlib.Nat.{le-refl}
 use mathlib.Core.Bool.{Bool, true, false}
 use mathlib.Core.List.{List, [], map}
-use lib.ListN.{length, take}
+use lib.ListN.{length, getD, take}
 use Rattle.answers.specs.declared.Answer.{Answer}
 use Rattle.answers.specs.declared.Answer.the-variants.{Accepted}
 use Rattle.kinds.specs.Kinds.{kindOf}
@@ -27,22 +27,22 @@ use Rattle.model.specs.Network.{Cycle, Reach, asIs, canonical, cleanup, cleanup
 use Rattle.model.specs.Sharing.{anyRepeats, factorNary, factorRefusal, flattenNary, flattenedInputs, inside, isSimple, shareLogic, weights}
 use Rattle.model.specs.Image.{Bytes, bodyOf, imageOf, netOf, refusalOf, sortedRefusalOf}
 use Rattle.model.specs.Evaluate.{Eval, Solves, after, afterBy, allZero, at, evaluate, run, runBy, runFromZero, signalValue, truth, truths}
-use Rattle.model.specs.Answers.{Kept, areasShort}
-use Rattle.model.specs.Entries.{calls, factorOutcome, flattenOutcome, shareOutcome}
+use Rattle.model.specs.Answers.{Outcome, Kept, Kept2, areasShort}
+use Rattle.model.specs.Entries.{calls, canonicalOutcome, cleanupOutcome, dedupOutcome, factorOutcome, flattenOutcome, shareOutcome, sortOutcome}
 use Rattle.shape.specs.Forms.{Kept as Stands}
-use Rattle.shape.proofs.Cleanup.{cleanup-combs, kept-reach, reach-kept, removed-zero}
-use Rattle.shape.proofs.Dedup.{dedup-combs}
+use Rattle.shape.proofs.Cleanup.{cleanup-combs, cleanup-sorted, kept-reach, reach-kept, removed-zero}
+use Rattle.shape.proofs.Dedup.{dedup-combs, dedup-sorted}
 use Rattle.shape.proofs.DedupNormal.{asIs-law, canonical-law}
 use Rattle.shape.proofs.Loops.{cycle-unsorted, unsorted-cycle}
 use Rattle.shape.proofs.RoundTrips.{read-written, written-read}
-use Rattle.shape.proofs.Sort.{sort-combs}
+use Rattle.shape.proofs.Sort.{sort-combs, sort-sorted}
 use Rattle.meaning.proofs.Accepted.{kept-accepts}
 use Rattle.meaning.proofs.Calls.{Good, calls-run, given}
 use Rattle.meaning.proofs.Cases.{Cases, cases}
 use Rattle.meaning.proofs.CleanupRuns.{cleanup-probe, cleanup-runs-from}
 use Rattle.meaning.proofs.DedupRuns.{canonical-probe, canonical-runs, deduplicate-probe, deduplicate-runs}
 use Rattle.meaning.proofs.FlattenRuns.{flatten-runs}
-use Rattle.meaning.proofs.PromisedImages.{Wrote, factor-wrote, flatten-wrote, share-writes, share-wrote}
+use Rattle.meaning.proofs.PromisedImages.{Wrote, WroteMapped, canonical-wrote, cleanup-wrote, dedup-wrote, factor-wrote, flatten-wrote, share-writes, share-wrote, reach-inside, sort-wrote, source-sorted}
 use Rattle.meaning.proofs.RemapRuns.{carry}
 use Rattle.meaning.proofs.ShareForms.{share-bound, share-simple, share-two}
 use Rattle.meaning.proofs.ShareRuns.{factor-runs, share-runs}
@@ -210,6 +210,62 @@ module _ (N : Net) (valid : Valid N) where
 
   pub sort-no-more-gates : sorts N ≡ true → combs (topoSort N .nodes) ≤ combs (N .nodes)
   sort-no-more-gates = sort-combs N valid
+
+-- The same of the four entries, from their contracts. Of an image img, its nodes' values given by ev: the image img′ that was written is
+-- accepted, has the same outputs in every cycle from zero, and each node v that K speaks of has the value of its signal in the mapping map′.
+pub record Carried (img : List ℕ) (ev : Eval) (K : ℕ → Type 0) (img′ map′ : List ℕ) : Type 0 where
+  pub accepted : sortedRefusalOf img′ ≡ 0
+  pub same-outputs : (is : List (List Bool)) → runBy (netOf img) ev allZero is ≡ runFromZero (netOf img′) is
+  pub mapping : (is : List (List Bool)) (i : List Bool) (v : ℕ) → K v → signalIn (netOf img′) allZero is i (getD map′ v 0) ≡ ev (at i) (afterBy (netOf img) ev allZero is) v
+
+carried : (img : List ℕ) (k : ℕ) (C : Type 0) (N′ : Net) (τ : ℕ → ℕ) (n : ℕ) (out′ map′ : List ℕ) → WroteMapped img k C N′ τ n out′ map′
+    → (ev : Eval) (K : ℕ → Type 0) → isTopoSorted N′ ≡ true → ((v : ℕ) → K v → v < size (netOf img))
+    → ((is : List (List Bool)) → runBy (netOf img) ev allZero is ≡ runFromZero N′ is)
+    → ((is : List (List Bool)) (i : List Bool) (v : ℕ) → K v → signalIn N′ allZero is i (τ v) ≡ ev (at i) (afterBy (netOf img) ev allZero is) v)
+    → Carried img ev K (take n out′) map′
+carried img k C N′ τ n out′ map′ w ev K sorted inside runs values = record {
+  accepted = w .holds .sorted sorted;
+  same-outputs = λ is. rw (w .holds .net) (runs is);
+  mapping = λ is i v h. rw (w .holds .net, w .words v (inside v h)) (values is i v h);
+}
+
+-- An entry was called with img, out, map, a and b, and accepted with length n; `N` is the network of img:
+module _ (img out map a b : List ℕ) (r : Answer) (out′ map′ a′ b′ : List ℕ) (n : ℕ) (accepts : r ≡ Accepted n) where
+  abbrev N : Net
+  N = netOf img
+
+  abbrev Called : Outcome → Type 0
+  Called o = Kept2 o out map a b r out′ map′ a′ b′
+
+  -- canonical;
+  pub canonical-image : Called (canonicalOutcome img out map a b) → Carried img (evaluate N) (λ v. v < size N) (take n out′) map′
+  canonical-image call =
+      let w = canonical-wrote img out map a b r out′ map′ a′ b′ n accepts call in
+      let s = source-sorted img (w .source) in
+      carried img _ _ _ _ n out′ map′ w (evaluate N) (λ v. v < size N) (dedup-sorted makeCanonical canonical-law N (w .valid) s) (λ v h. h)
+      (canonical-same-outputs N (w .valid) s) (canonical-mapping N (w .valid) s)
+
+  -- dedup;
+  pub dedup-image : Called (dedupOutcome img out map a b) → Carried img (evaluate N) (λ v. v < size N) (take n out′) map′
+  dedup-image call =
+      let w = dedup-wrote img out map a b r out′ map′ a′ b′ n accepts call in
+      let s = source-sorted img (w .source) in
+      carried img _ _ _ _ n out′ map′ w (evaluate N) (λ v. v < size N) (dedup-sorted asIs asIs-law N (w .valid) s) (λ v h. h)
+      (dedup-same-outputs N (w .valid) s) (dedup-mapping N (w .valid) s)
+
+  -- cleanup, where the image was sorted, for what outputs reach;
+  pub cleanup-image : Called (cleanupOutcome img out map a b) → isTopoSorted N ≡ true → Carried img (evaluate N) (Reach N) (take n out′) map′
+  cleanup-image call s =
+      let w = cleanup-wrote img out map a b r out′ map′ a′ b′ n accepts call in
+      carried img _ _ _ _ n out′ map′ w (evaluate N) (Reach N) (cleanup-sorted N (w .valid) s) (reach-inside N (w .valid))
+      (cleanup-same-outputs N (w .valid) s allZero) (cleanup-mapping N (w .valid) s allZero)
+
+  -- sort, by every way to give the nodes of the unsorted network values that all gates agree with.
+  pub sort-image : Called (sortOutcome img out map a b) → (ev : Eval) → Solves N ev → Carried img ev (λ v. v < size N) (take n out′) map′
+  sort-image call ev agrees =
+      let w = sort-wrote img out map a b r out′ map′ a′ b′ n accepts call in
+      carried img _ _ _ _ n out′ map′ w ev (λ v. v < size N) (sort-sorted N (w .valid) (w .pass)) (λ v h. h)
+      (sort-same-outputs N (w .valid) (w .pass) ev agrees allZero) (sort-mapping N (w .valid) (w .pass) ev agrees allZero)
 
 -- ---- 4. Images and calls
 
