@@ -13,23 +13,23 @@ use Rattle.model.specs.Normal.{Norm, copied, made, gateOf, made2, made3, least,
 use Rattle.model.specs.Network.{vars, translation, remap, sameList, sameGate, findGate, place, dedupNode, dedupDffs, dedupCombs, dedupWith, walk, cleanup}
 use Rattle.model.specs.Sharing.{mergeDependencies, flatGate, flats, merged, flattenNary}
 
-abbrev i0 : ℕ
+abbrev pub i0 : ℕ
 i0 = fromInput 0
 
-abbrev i1 : ℕ
+abbrev pub i1 : ℕ
 i1 = fromInput 1
 
-abbrev i2 : ℕ
+abbrev pub i2 : ℕ
 i2 = fromInput 2
 
-abbrev i3 : ℕ
+abbrev pub i3 : ℕ
 i3 = fromInput 3
 
 -- the signals of nodes 0 and 1
-abbrev x0 : ℕ
+abbrev pub x0 : ℕ
 x0 = fromVar 0
 
-abbrev x1 : ℕ
+abbrev pub x1 : ℕ
 x1 = fromVar 1
 
 abbrev normal : Kind → List ℕ → Norm

@@ -15,7 +15,7 @@ use Rattle.model.specs.Gate.{Gate, Net, Valid, isTopoSorted, size}
 use Rattle.model.specs.Normal.{Norm, makeCanonical}
 use Rattle.model.specs.Network.{Reach, translation, mappingOf, deduplicate, canonical, dedupWith, dedupMap, asIs, cleanupOrder, cleanup, topoOrder, topoSort, sorts}
 use Rattle.model.specs.Sharing.{flattenNary, flattenedInputs, factorNary, factorRefusal, anyRepeats, shareLogic}
-use Rattle.model.specs.Image.{Bytes, refusalOf, sortedRefusalOf, netOf, imageOf}
+use Rattle.model.specs.Image.{refusalOf, sortedRefusalOf, netOf, imageOf}
 use Rattle.model.specs.Answers.{Outcome, written, inAreas, inRoom, unless, Kept, Kept2}
 use Rattle.model.specs.Entries.{readOutcome, canonicalOutcome, dedupOutcome, cleanupOutcome, sortOutcome, flattenOutcome, factorOutcome, shareOutcome}
 use Rattle.shape.proofs.RoundTrips.{read-written}
@@ -63,6 +63,11 @@ module _ (img out a b : List ℕ) where
   imaged : (C : Type 0) (N′ : Net) (o : Outcome) → Writes o (imageOf N′) [] C
       → Writes (inAreas a b (inRoom (length out) 0 (unless (sortedRefusalOf img) o))) (imageOf N′) [] (Imaged C N′)
   imaged C N′ o w = writes-entry o (imageOf N′) [] C w a b (sortedRefusalOf img) (length out) 0
+
+  -- read, whose image need not be sorted
+  pub read-writes : Writes (readOutcome img out a b) (imageOf N) [] (Passes a b (refusalOf img) Unit (imageOf N) [] (length out) 0)
+  unfolding readOutcome
+  read-writes = writes-entry _ (imageOf N) [] Unit (writes-written (imageOf N) []) a b (refusalOf img) (length out) 0
 
   plain : (N′ : Net) → Writes (written (imageOf N′) []) (imageOf N′) [] Unit
   plain N′ = writes-written (imageOf N′) []

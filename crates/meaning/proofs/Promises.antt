@@ -2,19 +2,22 @@
 --
 -- `(x : A) → P` says: for every x of A, P. `P → Q`: if P, then Q. `P × Q`: P and Q. `P ↔ Q`: P exactly when Q. `a ≡ b`: a is b.
 -- What a line `module _ ..` supposes is supposed in all that is set in below it. A line that begins with the name of the statement above
--- it is that statement's proof. The words are defined in crates/model/specs, the main ones these:
+-- it is that statement's proof. The words are defined in crates/model/specs; the main ones:
 --   netOf img, imageOf N     the network that an image holds; the image of a network
 --   Valid, isTopoSorted      what an image's network is when the numbers 2 to 6, and 7, are not met
 --   runFromZero N is         the outputs of every cycle, the flip-flops starting at zero; `is` has the inputs of each cycle, as many
 --                            cycles as one likes. `run N st is` starts from the states st
---   Kept                     the contract of every entry: its answer r, and the slices at exit (out′ a′ b′) from those at entry
+--   Kept, Kept2              the contract of every entry: its answer r, and the slices at exit (primed) from those at entry
+-- and in PromisedMappings:
+--   signalIn N st is i s     the value of signal s in the cycle with inputs i, after cycles with inputs `is` from the states st
+--   nodeIn N st is i n       the value of node n in that cycle
 use mathlib.Core.Path.{_≡_, sym, _∙_}
 use mathlib.Core.Logic.{_↔_}
 use Prim.Native.Nat.{ℕ, _≤_, _<_}
-use native.Mathlib.Nat.{le-refl}
+use native.Mathlib.Omega.{arith}
 use mathlib.Core.Bool.{Bool, true, false}
 use mathlib.Core.List.{List, [], map}
-use lib.ListN.{length, getD, take}
+use lib.ListN.{length, take}
 use Rattle.answers.specs.declared.Answer.{Answer}
 use Rattle.answers.specs.declared.Answer.the-variants.{Accepted}
 use Rattle.kinds.specs.Kinds.{kindOf}
@@ -26,23 +29,24 @@ use Rattle.model.specs.Normal.{makeCanonical}
 use Rattle.model.specs.Network.{Cycle, Reach, asIs, canonical, cleanup, cleanupOrder, dedupMap, deduplicate, sorts, topoOrder, topoSort, translation}
 use Rattle.model.specs.Sharing.{anyRepeats, factorNary, factorRefusal, flattenNary, flattenedInputs, inside, isSimple, shareLogic, weights}
 use Rattle.model.specs.Image.{Bytes, bodyOf, imageOf, netOf, refusalOf, sortedRefusalOf}
-use Rattle.model.specs.Evaluate.{Eval, Solves, after, afterBy, allZero, at, evaluate, run, runBy, runFromZero, signalValue, truth, truths}
-use Rattle.model.specs.Answers.{Outcome, Kept, Kept2, areasShort}
-use Rattle.model.specs.Entries.{calls, canonicalOutcome, cleanupOutcome, dedupOutcome, factorOutcome, flattenOutcome, shareOutcome, sortOutcome}
+use Rattle.model.specs.Evaluate.{Eval, Solves, afterBy, allZero, at, evaluate, run, runBy, runFromZero, truth, truths}
+use Rattle.model.specs.Answers.{Kept, Kept2, areasShort}
+use Rattle.model.specs.Entries.{calls, canonicalOutcome, cleanupOutcome, dedupOutcome, factorOutcome, flattenOutcome, readOutcome, shareOutcome, sortOutcome}
 use Rattle.shape.specs.Forms.{Kept as Stands}
-use Rattle.shape.proofs.Cleanup.{cleanup-combs, cleanup-sorted, kept-reach, reach-kept, removed-zero}
-use Rattle.shape.proofs.Dedup.{dedup-combs, dedup-sorted}
+use Rattle.shape.proofs.Cleanup.{cleanup-combs, kept-reach, reach-kept, removed-zero}
+use Rattle.shape.proofs.Dedup.{dedup-combs}
 use Rattle.shape.proofs.DedupNormal.{asIs-law, canonical-law}
 use Rattle.shape.proofs.Loops.{cycle-unsorted, unsorted-cycle}
 use Rattle.shape.proofs.RoundTrips.{read-written, written-read}
-use Rattle.shape.proofs.Sort.{sort-combs, sort-sorted}
-use Rattle.meaning.proofs.Accepted.{kept-accepts}
+use Rattle.shape.proofs.Sort.{sort-combs}
+use Rattle.meaning.proofs.Accepted.{kept-accepts, kept-found}
 use Rattle.meaning.proofs.Calls.{Good, calls-run, given}
 use Rattle.meaning.proofs.Cases.{Cases, cases}
 use Rattle.meaning.proofs.CleanupRuns.{cleanup-probe, cleanup-runs-from}
 use Rattle.meaning.proofs.DedupRuns.{canonical-probe, canonical-runs, deduplicate-probe, deduplicate-runs}
 use Rattle.meaning.proofs.FlattenRuns.{flatten-runs}
-use Rattle.meaning.proofs.PromisedImages.{Wrote, WroteMapped, canonical-wrote, cleanup-wrote, dedup-wrote, factor-wrote, flatten-wrote, share-writes, share-wrote, reach-inside, sort-wrote, source-sorted}
+use Rattle.meaning.proofs.PromisedImages.{Wrote, factor-wrote, flatten-wrote, read-writes, share-writes, share-wrote}
+use Rattle.meaning.proofs.PromisedMappings.{Carried, canonical-carried, cleanup-carried, dedup-carried, nodeIn, signalIn, sort-carried}
 use Rattle.meaning.proofs.RemapRuns.{carry}
 use Rattle.meaning.proofs.ShareForms.{share-bound, share-simple, share-two}
 use Rattle.meaning.proofs.ShareRuns.{factor-runs, share-runs}
@@ -89,21 +93,22 @@ pub record NoneMet (img out a b : List ℕ) (limit : ℕ) : Type 0 where
 
 -- Share was called with img, out, a, b and a limit, and answered r:
 module _ (img out a b : List ℕ) (limit : ℕ) (r : Answer) (out′ a′ b′ : List ℕ) (call : Kept (shareOutcome img out a b limit) out a b r out′ a′ b′) where
-  -- where none of its numbers is met it accepts, answering the length of the image of the shared network, and nowhere else.
+  -- it accepts where none of its numbers is met, and only there; the length that it answers is that of the shared network's image.
   pub share-accepts : NoneMet img out a b limit → r ≡ Accepted (length (imageOf (shareLogic (netOf img) limit)))
   share-accepts m =
       kept-accepts _ _ [] _ (share-writes img out a b limit) out a b r out′ a′ b′ call
-      (record { areas = m .not-1; source = m .not-2-to-7; pass = (m .not-10, m .not-11-12); image-fits = m .not-13; mapping-fits = le-refl 0 })
+      (record { areas = m .not-1; source = m .not-2-to-7; pass = (m .not-10, m .not-11-12); image-fits = omega (arith, m .not-13); mapping-fits = omega arith })
 
-  -- It accepted with length n. The image that it wrote is the first n bytes of out:
+  pub share-accepts-only : (n : ℕ) → r ≡ Accepted n → NoneMet img out a b limit
+  share-accepts-only n accepts =
+      let p = share-writes img out a b limit .asks n (sym (call .answer) ∙ accepts) in
+      record { not-1 = p .areas; not-2-to-7 = p .source; not-10 = p .pass .0; not-11-12 = p .pass .1; not-13 = p .image-fits }
+
+  -- Where it accepted with length n, the image that it wrote is the first n bytes of out:
   module _ (n : ℕ) (accepts : r ≡ Accepted n) where
+    -- (what it wrote, from below)
     wrote : Wrote img ((flattenedInputs (netOf img) limit ≤ 2048) × (factorRefusal (flattenNary (netOf img) limit) ≡ 0)) (shareLogic (netOf img) limit) n out′
     wrote = share-wrote img out a b r out′ a′ b′ n accepts limit call
-
-    pub share-accepts-only : NoneMet img out a b limit
-    share-accepts-only =
-        let p = share-writes img out a b limit .asks n (sym (call .answer) ∙ accepts) in
-        record { not-1 = p .areas; not-2-to-7 = p .source; not-10 = p .pass .0; not-11-12 = p .pass .1; not-13 = p .image-fits }
 
     -- it is accepted in turn, by every entry that asks for a sorted image;
     pub share-image-accepted : sortedRefusalOf (take n out′) ≡ 0
@@ -144,13 +149,6 @@ module _ (img out a b : List ℕ) (r : Answer) (out′ a′ b′ : List ℕ) (n 
         rw (w .net) (factor-same-outputs (netOf img) (w .valid) (w .sorted) (w .pass .0) (w .pass .1) is)
 
 -- ---- 3. The other passes. Each writes a mapping, a signal of the result for each old node; no pass leaves more combinational gates
-
--- In the cycle with inputs i, after cycles with inputs `is` from the states st: the value of signal s, and of node n.
-abbrev signalIn : Net → (ℕ → Bool) → List (List Bool) → List Bool → ℕ → Bool
-signalIn N st is i s = signalValue (at i) (evaluate N (at i) (after N st is)) s
-
-abbrev nodeIn : Net → (ℕ → Bool) → List (List Bool) → List Bool → ℕ → Bool
-nodeIn N st is i n = evaluate N (at i) (after N st is) n
 
 module _ (N : Net) (valid : Valid N) (sorted : isTopoSorted N ≡ true) where
   -- Canonical, from zero: the same outputs in every cycle, and the mapped signal has each old node's value.
@@ -196,8 +194,8 @@ module _ (N : Net) (valid : Valid N) where
   pub sort-fails : (sorts N ≡ false) ↔ Cycle N
   sort-fails = (unsorted-cycle N (valid .signals), cycle-unsorted N (valid .signals))
 
-  -- Where it does not, there is a way `ev` to give each node a value that all gates agree with; by every such way, and from any states st,
-  -- carried to their new numbers: the same outputs in every cycle, and the mapped signal has each old node's value.
+  -- Where it does not fail there are values `ev` that all gates agree with; and by whatever such values, from any states st, carried to their
+  -- new numbers: the same outputs in every cycle, and the mapped signal has each old node's value.
   pub unsorted-has-values : sorts N ≡ true → (ev : Eval) × Solves N ev
   unsorted-has-values no-loop = (_, sort-solves N valid no-loop)
 
@@ -211,61 +209,25 @@ module _ (N : Net) (valid : Valid N) where
   pub sort-no-more-gates : sorts N ≡ true → combs (topoSort N .nodes) ≤ combs (N .nodes)
   sort-no-more-gates = sort-combs N valid
 
--- The same of the four entries, from their contracts. Of an image img, its nodes' values given by ev: the image img′ that was written is
--- accepted, has the same outputs in every cycle from zero, and each node v that K speaks of has the value of its signal in the mapping map′.
-pub record Carried (img : List ℕ) (ev : Eval) (K : ℕ → Type 0) (img′ map′ : List ℕ) : Type 0 where
-  pub accepted : sortedRefusalOf img′ ≡ 0
-  pub same-outputs : (is : List (List Bool)) → runBy (netOf img) ev allZero is ≡ runFromZero (netOf img′) is
-  pub mapping : (is : List (List Bool)) (i : List Bool) (v : ℕ) → K v → signalIn (netOf img′) allZero is i (getD map′ v 0) ≡ ev (at i) (afterBy (netOf img) ev allZero is) v
-
-carried : (img : List ℕ) (k : ℕ) (C : Type 0) (N′ : Net) (τ : ℕ → ℕ) (n : ℕ) (out′ map′ : List ℕ) → WroteMapped img k C N′ τ n out′ map′
-    → (ev : Eval) (K : ℕ → Type 0) → isTopoSorted N′ ≡ true → ((v : ℕ) → K v → v < size (netOf img))
-    → ((is : List (List Bool)) → runBy (netOf img) ev allZero is ≡ runFromZero N′ is)
-    → ((is : List (List Bool)) (i : List Bool) (v : ℕ) → K v → signalIn N′ allZero is i (τ v) ≡ ev (at i) (afterBy (netOf img) ev allZero is) v)
-    → Carried img ev K (take n out′) map′
-carried img k C N′ τ n out′ map′ w ev K sorted inside runs values = record {
-  accepted = w .holds .sorted sorted;
-  same-outputs = λ is. rw (w .holds .net) (runs is);
-  mapping = λ is i v h. rw (w .holds .net, w .words v (inside v h)) (values is i v h);
-}
-
--- An entry was called with img, out, map, a and b, and accepted with length n; `N` is the network of img:
+-- Canonical, dedup, cleanup or sort was called with img, out, map, a and b, and accepted with length n; N is the network of img. The image
+-- that it wrote is accepted, has the same outputs in every cycle from zero, and word v of the mapping is a signal with node v's value
+-- (`Carried`): by the values that evaluation gives, of every node, or of those that outputs reach;
 module _ (img out map a b : List ℕ) (r : Answer) (out′ map′ a′ b′ : List ℕ) (n : ℕ) (accepts : r ≡ Accepted n) where
   abbrev N : Net
   N = netOf img
 
-  abbrev Called : Outcome → Type 0
-  Called o = Kept2 o out map a b r out′ map′ a′ b′
+  pub canonical-image : Kept2 (canonicalOutcome img out map a b) out map a b r out′ map′ a′ b′ → Carried img (evaluate N) (λ v. v < size N) (take n out′) map′
+  canonical-image = canonical-carried img out map a b r out′ map′ a′ b′ n accepts
 
-  -- canonical;
-  pub canonical-image : Called (canonicalOutcome img out map a b) → Carried img (evaluate N) (λ v. v < size N) (take n out′) map′
-  canonical-image call =
-      let w = canonical-wrote img out map a b r out′ map′ a′ b′ n accepts call in
-      let s = source-sorted img (w .source) in
-      carried img _ _ _ _ n out′ map′ w (evaluate N) (λ v. v < size N) (dedup-sorted makeCanonical canonical-law N (w .valid) s) (λ v h. h)
-      (canonical-same-outputs N (w .valid) s) (canonical-mapping N (w .valid) s)
+  pub dedup-image : Kept2 (dedupOutcome img out map a b) out map a b r out′ map′ a′ b′ → Carried img (evaluate N) (λ v. v < size N) (take n out′) map′
+  dedup-image = dedup-carried img out map a b r out′ map′ a′ b′ n accepts
 
-  -- dedup;
-  pub dedup-image : Called (dedupOutcome img out map a b) → Carried img (evaluate N) (λ v. v < size N) (take n out′) map′
-  dedup-image call =
-      let w = dedup-wrote img out map a b r out′ map′ a′ b′ n accepts call in
-      let s = source-sorted img (w .source) in
-      carried img _ _ _ _ n out′ map′ w (evaluate N) (λ v. v < size N) (dedup-sorted asIs asIs-law N (w .valid) s) (λ v h. h)
-      (dedup-same-outputs N (w .valid) s) (dedup-mapping N (w .valid) s)
+  pub cleanup-image : Kept2 (cleanupOutcome img out map a b) out map a b r out′ map′ a′ b′ → isTopoSorted N ≡ true → Carried img (evaluate N) (Reach N) (take n out′) map′
+  cleanup-image = cleanup-carried img out map a b r out′ map′ a′ b′ n accepts
 
-  -- cleanup, where the image was sorted, for what outputs reach;
-  pub cleanup-image : Called (cleanupOutcome img out map a b) → isTopoSorted N ≡ true → Carried img (evaluate N) (Reach N) (take n out′) map′
-  cleanup-image call s =
-      let w = cleanup-wrote img out map a b r out′ map′ a′ b′ n accepts call in
-      carried img _ _ _ _ n out′ map′ w (evaluate N) (Reach N) (cleanup-sorted N (w .valid) s) (reach-inside N (w .valid))
-      (cleanup-same-outputs N (w .valid) s allZero) (cleanup-mapping N (w .valid) s allZero)
-
-  -- sort, by every way to give the nodes of the unsorted network values that all gates agree with.
-  pub sort-image : Called (sortOutcome img out map a b) → (ev : Eval) → Solves N ev → Carried img ev (λ v. v < size N) (take n out′) map′
-  sort-image call ev agrees =
-      let w = sort-wrote img out map a b r out′ map′ a′ b′ n accepts call in
-      carried img _ _ _ _ n out′ map′ w ev (λ v. v < size N) (sort-sorted N (w .valid) (w .pass)) (λ v h. h)
-      (sort-same-outputs N (w .valid) (w .pass) ev agrees allZero) (sort-mapping N (w .valid) (w .pass) ev agrees allZero)
+  -- of sort, which takes unsorted images, by whatever values all gates agree with.
+  pub sort-image : Kept2 (sortOutcome img out map a b) out map a b r out′ map′ a′ b′ → (ev : Eval) → Solves N ev → Carried img ev (λ v. v < size N) (take n out′) map′
+  sort-image = sort-carried img out map a b r out′ map′ a′ b′ n accepts
 
 -- ---- 4. Images and calls
 
@@ -282,6 +244,13 @@ accepted-is-valid img bytes accepted = written-read img bytes accepted .valid
 
 pub writing-what-was-read : (img : List ℕ) → Bytes img → refusalOf img ≡ 0 → imageOf (netOf img) ≡ bodyOf img
 writing-what-was-read img bytes accepted = written-read img bytes accepted .same
+
+-- Read was called with an image of bytes, and accepted with length n: it wrote that image without its prefix.
+pub read-image : (img out a b : List ℕ) (r : Answer) (out′ a′ b′ : List ℕ) → Kept (readOutcome img out a b) out a b r out′ a′ b′ → (n : ℕ) → r ≡ Accepted n
+    → Bytes img → take n out′ ≡ bodyOf img
+read-image img out a b r out′ a′ b′ call n accepts bytes =
+    let f = kept-found _ _ [] _ (read-writes img out a b) out a b r out′ a′ b′ call n accepts in
+    f .there ∙ writing-what-was-read img bytes (f .held .source)
 
 -- Evaluate called once for each of the input vectors xs, each time with the states that the call before left: as long as the calls accept,
 -- the bytes that they write are those of a run of the image's network from the first states.
