@@ -1,13 +1,13 @@
 -- An entry that accepts: what holds of the image where it does, and what it wrote into the lent buffers.
-use mathlib.Core.Path.{_≡_, refl, sym, ap, _∙_}
-use Prim.Native.Nat.{ℕ, _≤_}
+use mathlib.Core.Path.{_≡_, refl, sym, _∙_}
+use Prim.Native.Nat.{ℕ, suc, _≤_}
 use native.Mathlib.Omega.{arith}
 use mathlib.Core.Bool.{Bool, true, false, cond, _&&_}
 use mathlib.Core.List.{List}
 use lib.ListN.{length, take, drop}
 use lib.Seq.{take-append-seam}
 use lib.Dec.{eqb, leb}
-use borrow.Author.Tests.{eqb-true, eq-eqb, leb-true, le-leb}
+use borrow.Author.Tests.{eqb-true, eq-eqb, ne-eqb, leb-true, le-leb}
 use Rattle.answers.specs.declared.Answer.{Answer}
 use Rattle.answers.specs.declared.Answer.the-variants.{Accepted}
 use Rattle.laws.proofs.Bools.{and-left, and-right}
@@ -48,6 +48,12 @@ module _ (o : Outcome) (image mapping : List ℕ) (C : Type 0) (w : Writes o ima
     asks = λ n e. by-bool (areasShort a b) (λ p. never 1 n (rw p at e)) (λ p. (p, w .asks n (rw p at e)));
     gives = λ c. rw (c .0) (w .gives (c .1));
   }
+
+-- two numbers in a row, the first given by a test, are one
+pub unless-twice : (t : Bool) (j k : ℕ) (o : Outcome) → unless (cond t (suc j) 0) (unless k o) ≡ unless (cond t (suc j) k) o
+unfolding unless
+unless-twice true j k o = rw (ne-eqb (suc j) 0 (λ e. omega arith))
+unless-twice false j k o = refl
 
 -- in room or not, what accepts accepted before
 room-answered : (x y : ℕ) (o : Outcome) (n : ℕ) → Answered (inRoom x y o) n → Answered o n
@@ -100,10 +106,6 @@ module _ (o : Outcome) (image mapping : List ℕ) (C : Type 0) (w : Writes o ima
   kept2-found second second′ k n e =
       let f = kept-found (k .first) n e in
       (f, rw (k .second-is, w .gives (f .held)) (front mapping second))
-
-  -- ACCEPTANCE EXACTLY WHERE nothing refuses
-  pub kept-accepts : Kept o out a b r out′ a′ b′ → C → r ≡ Accepted (length image)
-  kept-accepts k c = k .answer ∙ ap answerOf (w .gives c)
 
 -- ---- an entry: 1; the numbers k of the image; the pass's own; 13
 

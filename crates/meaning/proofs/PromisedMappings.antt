@@ -1,17 +1,21 @@
 -- The entries that write a mapping, from their contracts: the image that each wrote has the same outputs, and its mapping the old values.
 use mathlib.Core.Path.{_≡_}
+use mathlib.Core.Logic.{_↔_}
 use Prim.Native.Nat.{ℕ, _<_}
-use mathlib.Core.Bool.{Bool, true}
+use native.Mathlib.Omega.{arith}
+use mathlib.Core.Bool.{Bool, true, false, _&&_}
 use mathlib.Core.List.{List}
-use lib.ListN.{getD, take}
+use lib.ListN.{length, getD, take}
+use lib.Dec.{leb}
 use Rattle.answers.specs.declared.Answer.{Answer}
-use Rattle.answers.specs.declared.Answer.the-variants.{Accepted}
+use Rattle.answers.specs.declared.Answer.the-variants.{Accepted, Refused}
+use Rattle.laws.proofs.Choices.{by-bool}
 use Rattle.model.specs.Gate.{Gate, Net, isTopoSorted, size}
 use Rattle.model.specs.Normal.{Norm, makeCanonical}
-use Rattle.model.specs.Network.{Reach, asIs, dedupMap, dedupWith}
-use Rattle.model.specs.Image.{netOf, sortedRefusalOf}
+use Rattle.model.specs.Network.{Reach, asIs, dedupMap, dedupWith, mappingOf, sorts, topoOrder, topoSort, translation}
+use Rattle.model.specs.Image.{imageOf, netOf, refusalOf, sortedRefusalOf}
 use Rattle.model.specs.Evaluate.{Eval, Solves, after, afterBy, allZero, at, evaluate, runBy, runFromZero, signalValue}
-use Rattle.model.specs.Answers.{Outcome, Kept2}
+use Rattle.model.specs.Answers.{Outcome, Kept2, answerOf, areasShort, inAreas, inRoom, unless, written}
 use Rattle.model.specs.Entries.{canonicalOutcome, cleanupOutcome, dedupOutcome, sortOutcome}
 use Rattle.shape.proofs.Cleanup.{cleanup-sorted}
 use Rattle.shape.proofs.Dedup.{dedup-sorted}
@@ -80,3 +84,20 @@ module _ (img out map a b : List ℕ) (r : Answer) (out′ map′ a′ b′ : Li
       let w = sort-wrote img out map a b r out′ map′ a′ b′ n accepts call in
       carried img _ _ _ _ n out′ map′ w ev (λ v. v < size N) (sort-sorted N (w .valid) (w .pass)) (λ v h. h)
       (sort-runs-from N (w .valid) (w .pass) ev agrees allZero) (sort-probe N (w .valid) (w .pass) ev agrees allZero)
+
+-- ---- 8, from sort's contract
+
+-- in room or not, what is written is not refused with 8
+written-not-8 : {X : Type 0} (room map-room : ℕ) (image mapping : List ℕ) → answerOf (inRoom room map-room (written image mapping)) ≡ Refused 8 → X
+written-not-8 room map-room image mapping e = by-bool (leb (length image) room && leb (length mapping) map-room)
+    (λ t. let q : Accepted (length image) ≡ Refused 8 = rw t at e in let z : _≡_ {A = ℕ} 0 1 = cc in absurd (omega arith))
+    (λ t. let q : Refused 13 ≡ Refused 8 = rw t at e in let z : _≡_ {A = ℕ} 13 8 = cc in absurd (omega arith))
+
+pub sort-8 : (img out map a b : List ℕ) → areasShort a b ≡ false → refusalOf img ≡ 0 → (answerOf (sortOutcome img out map a b) ≡ Refused 8) ↔ (sorts (netOf img) ≡ false)
+unfolding sortOutcome inAreas unless
+sort-8 img out map a b long sound =
+    let N = netOf img in
+    let mapping = mappingOf (size N) (translation (size N) (topoOrder N)) in (
+      λ e. by-bool (sorts N) (λ s. written-not-8 (length out) (length map) (imageOf (topoSort N)) mapping (rw (long, sound, s) at e)) (λ s. s),
+      λ s. rw (long, sound, s),
+    )

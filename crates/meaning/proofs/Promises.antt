@@ -11,15 +11,16 @@
 -- and in PromisedMappings:
 --   signalIn N st is i s     the value of signal s in the cycle with inputs i, after cycles with inputs `is` from the states st
 --   nodeIn N st is i n       the value of node n in that cycle
-use mathlib.Core.Path.{_≡_, sym, _∙_}
-use mathlib.Core.Logic.{_↔_}
+use mathlib.Core.Path.{_≡_, _∙_}
+use mathlib.Core.Logic.{_↔_, _≢_, Iff·trans}
 use Prim.Native.Nat.{ℕ, _≤_, _<_}
-use native.Mathlib.Omega.{arith}
-use mathlib.Core.Bool.{Bool, true, false}
+use mathlib.Core.Bool.{Bool, true, false, cond}
 use mathlib.Core.List.{List, [], map}
 use lib.ListN.{length, take}
+use lib.Dec.{ltb}
+use borrow.Author.Tests.{le-leb, lt-leb, ne-eqb}
 use Rattle.answers.specs.declared.Answer.{Answer}
-use Rattle.answers.specs.declared.Answer.the-variants.{Accepted}
+use Rattle.answers.specs.declared.Answer.the-variants.{Accepted, Refused}
 use Rattle.kinds.specs.Kinds.{kindOf}
 use Rattle.kinds.specs.declared.Family.{Family}
 use Rattle.laws.specs.Bools.{bit}
@@ -30,7 +31,7 @@ use Rattle.model.specs.Network.{Cycle, Reach, asIs, canonical, cleanup, cleanup
 use Rattle.model.specs.Sharing.{anyRepeats, factorNary, factorRefusal, flattenNary, flattenedInputs, inside, isSimple, shareLogic, weights}
 use Rattle.model.specs.Image.{Bytes, bodyOf, imageOf, netOf, refusalOf, sortedRefusalOf}
 use Rattle.model.specs.Evaluate.{Eval, Solves, afterBy, allZero, at, evaluate, run, runBy, runFromZero, truth, truths}
-use Rattle.model.specs.Answers.{Kept, Kept2, areasShort}
+use Rattle.model.specs.Answers.{Kept, Kept2, answerOf, areasShort, inAreas, inRoom, unless, written}
 use Rattle.model.specs.Entries.{calls, canonicalOutcome, cleanupOutcome, dedupOutcome, factorOutcome, flattenOutcome, readOutcome, shareOutcome, sortOutcome}
 use Rattle.shape.specs.Forms.{Kept as Stands}
 use Rattle.shape.proofs.Cleanup.{cleanup-combs, kept-reach, reach-kept, removed-zero}
@@ -39,14 +40,15 @@ use Rattle.shape.proofs.DedupNormal.{asIs-law, canonical-law}
 use Rattle.shape.proofs.Loops.{cycle-unsorted, unsorted-cycle}
 use Rattle.shape.proofs.RoundTrips.{read-written, written-read}
 use Rattle.shape.proofs.Sort.{sort-combs}
-use Rattle.meaning.proofs.Accepted.{kept-accepts, kept-found}
+use Rattle.shape.proofs.Valids.{valid-net}
+use Rattle.meaning.proofs.Accepted.{kept-found, unless-twice}
 use Rattle.meaning.proofs.Calls.{Good, calls-run, given}
 use Rattle.meaning.proofs.Cases.{Cases, cases}
 use Rattle.meaning.proofs.CleanupRuns.{cleanup-probe, cleanup-runs-from}
 use Rattle.meaning.proofs.DedupRuns.{canonical-probe, canonical-runs, deduplicate-probe, deduplicate-runs}
 use Rattle.meaning.proofs.FlattenRuns.{flatten-runs}
-use Rattle.meaning.proofs.PromisedImages.{Wrote, factor-wrote, flatten-wrote, read-writes, share-writes, share-wrote}
-use Rattle.meaning.proofs.PromisedMappings.{Carried, canonical-carried, cleanup-carried, dedup-carried, nodeIn, signalIn, sort-carried}
+use Rattle.meaning.proofs.PromisedImages.{Wrote, factor-wrote, flatten-wrote, read-writes, share-wrote}
+use Rattle.meaning.proofs.PromisedMappings.{Carried, canonical-carried, cleanup-carried, dedup-carried, nodeIn, signalIn, sort-8, sort-carried}
 use Rattle.meaning.proofs.RemapRuns.{carry}
 use Rattle.meaning.proofs.ShareForms.{share-bound, share-simple, share-two}
 use Rattle.meaning.proofs.ShareRuns.{factor-runs, share-runs}
@@ -83,32 +85,45 @@ module _ (N : Net) (valid : Valid N) (sorted : isTopoSorted N ≡ true) where
 
 -- ---- 2. The entries flatten, factor and share, from their contracts: of any image, buffers and areas
 
--- What share needs to accept: that none of its numbers is met.
-pub record NoneMet (img out a b : List ℕ) (limit : ℕ) : Type 0 where
-  pub not-1 : areasShort a b ≡ false
-  pub not-2-to-7 : sortedRefusalOf img ≡ 0
-  pub not-10 : flattenedInputs (netOf img) limit ≤ 2048
-  pub not-11-12 : factorRefusal (flattenNary (netOf img) limit) ≡ 0
-  pub not-13 : length (imageOf (shareLogic (netOf img) limit)) ≤ length out
+-- What such an entry answers, line by line: k is the number that the pass itself meets, or 0, and `image` the image of its result. The five
+-- cases exclude each other, and there is no sixth: so each number is answered exactly where its line says, and acceptance everywhere else.
+pub record Answers (img out a b : List ℕ) (k : ℕ) (image : List ℕ) (r : Answer) : Type 0 where
+  pub on-1 : areasShort a b ≡ true → r ≡ Refused 1
+  pub on-2-to-7 : areasShort a b ≡ false → sortedRefusalOf img ≢ 0 → r ≡ Refused (sortedRefusalOf img)
+  pub on-9-to-12 : areasShort a b ≡ false → sortedRefusalOf img ≡ 0 → k ≢ 0 → r ≡ Refused k
+  pub on-13 : areasShort a b ≡ false → sortedRefusalOf img ≡ 0 → k ≡ 0 → length out < length image → r ≡ Refused 13
+  pub on-0 : areasShort a b ≡ false → sortedRefusalOf img ≡ 0 → k ≡ 0 → length image ≤ length out → r ≡ Accepted (length image)
+
+answers : (img out a b : List ℕ) (k : ℕ) (image : List ℕ) (r : Answer) → r ≡ answerOf (inAreas a b (inRoom (length out) 0 (unless (sortedRefusalOf img) (unless k (written image [])))))
+    → Answers img out a b k image r
+unfolding inAreas unless
+answers img out a b k image r e = record {
+  on-1 = λ short. e ∙ rw short;
+  on-2-to-7 = λ long bad. e ∙ rw (long, ne-eqb (sortedRefusalOf img) 0 bad);
+  on-9-to-12 = λ long sound met. e ∙ rw (long, sound, ne-eqb k 0 met);
+  on-13 = λ long sound none less. e ∙ rw (long, sound, none, lt-leb (length image) (length out) less);
+  on-0 = λ long sound none room. e ∙ rw (long, sound, none, le-leb (length image) (length out) room);
+}
 
 -- Share was called with img, out, a, b and a limit, and answered r:
 module _ (img out a b : List ℕ) (limit : ℕ) (r : Answer) (out′ a′ b′ : List ℕ) (call : Kept (shareOutcome img out a b limit) out a b r out′ a′ b′) where
-  -- it accepts where none of its numbers is met, and only there; the length that it answers is that of the shared network's image.
-  pub share-accepts : NoneMet img out a b limit → r ≡ Accepted (length (imageOf (shareLogic (netOf img) limit)))
-  share-accepts m =
-      kept-accepts _ _ [] _ (share-writes img out a b limit) out a b r out′ a′ b′ call
-      (record { areas = m .not-1; source = m .not-2-to-7; pass = (m .not-10, m .not-11-12); image-fits = omega (arith, m .not-13); mapping-fits = omega arith })
-
-  pub share-accepts-only : (n : ℕ) → r ≡ Accepted n → NoneMet img out a b limit
-  share-accepts-only n accepts =
-      let p = share-writes img out a b limit .asks n (sym (call .answer) ∙ accepts) in
-      record { not-1 = p .areas; not-2-to-7 = p .source; not-10 = p .pass .0; not-11-12 = p .pass .1; not-13 = p .image-fits }
+  -- 10 where gate inputs pass 2,048, else 11 or 12 as factoring the flattened network meets them;
+  pub share-answers : Answers img out a b (cond (ltb 2048 (flattenedInputs (netOf img) limit)) 10 (factorRefusal (flattenNary (netOf img) limit))) (imageOf (shareLogic (netOf img) limit)) r
+  unfolding shareOutcome
+  share-answers = answers img out a b _ _ r (call .answer ∙ rw (unless-twice (ltb 2048 (flattenedInputs (netOf img) limit)) 9))
 
   -- Where it accepted with length n, the image that it wrote is the first n bytes of out:
   module _ (n : ℕ) (accepts : r ≡ Accepted n) where
     -- (what it wrote, from below)
     wrote : Wrote img ((flattenedInputs (netOf img) limit ≤ 2048) × (factorRefusal (flattenNary (netOf img) limit) ≡ 0)) (shareLogic (netOf img) limit) n out′
     wrote = share-wrote img out a b r out′ a′ b′ n accepts limit call
+
+    -- it is the image of the shared network, and n is its length;
+    pub share-image-is : take n out′ ≡ imageOf (shareLogic (netOf img) limit)
+    share-image-is = wrote .image
+
+    pub share-image-length : n ≡ length (imageOf (shareLogic (netOf img) limit))
+    share-image-length = wrote .long
 
     -- it is accepted in turn, by every entry that asks for a sorted image;
     pub share-image-accepted : sortedRefusalOf (take n out′) ≡ 0
@@ -128,7 +143,18 @@ module _ (img out a b : List ℕ) (limit : ℕ) (r : Answer) (out′ a′ b′ :
     pub share-image-gate-bound : combs (netOf (take n out′) .nodes) ≤ weights (flattenNary (netOf img) limit .nodes)
     share-image-gate-bound = let w = wrote in rw (w .net) (share-gate-bound (netOf img) (w .valid) (w .sorted) limit (w .pass .0) (w .pass .1))
 
--- Flatten or factor was called, and accepted with length n: its image is accepted, and has the same outputs in every cycle.
+-- Flatten or factor was called, and answered r; where it accepted with length n its image is accepted, and has the same outputs in every cycle.
+module _ (img out a b : List ℕ) (r : Answer) (out′ a′ b′ : List ℕ) where
+  pub flatten-answers : (limit : ℕ) → Kept (flattenOutcome img out a b limit) out a b r out′ a′ b′
+      → Answers img out a b (cond (ltb 2048 (flattenedInputs (netOf img) limit)) 10 0) (imageOf (flattenNary (netOf img) limit)) r
+  unfolding flattenOutcome
+  flatten-answers limit call = answers img out a b _ _ r (call .answer)
+
+  pub factor-answers : Kept (factorOutcome img out a b) out a b r out′ a′ b′
+      → Answers img out a b (cond (anyRepeats (netOf img .nodes)) 9 (factorRefusal (netOf img))) (imageOf (factorNary (netOf img))) r
+  unfolding factorOutcome
+  factor-answers call = answers img out a b _ _ r (call .answer ∙ rw (unless-twice (anyRepeats (netOf img .nodes)) 8))
+
 module _ (img out a b : List ℕ) (r : Answer) (out′ a′ b′ : List ℕ) (n : ℕ) (accepts : r ≡ Accepted n) where
   module _ (limit : ℕ) (call : Kept (flattenOutcome img out a b limit) out a b r out′ a′ b′) where
     pub flatten-image-accepted : sortedRefusalOf (take n out′) ≡ 0
@@ -229,6 +255,12 @@ module _ (img out map a b : List ℕ) (r : Answer) (out′ map′ a′ b′ : Li
   pub sort-image : Kept2 (sortOutcome img out map a b) out map a b r out′ map′ a′ b′ → (ev : Eval) → Solves N ev → Carried img ev (λ v. v < size N) (take n out′) map′
   sort-image = sort-carried img out map a b r out′ map′ a′ b′ n accepts
 
+-- Sort was called with areas that are long enough and an image that is read: it answers 8 exactly where a path of combinational gates returns.
+pub sort-answers-8 : (img out map a b : List ℕ) (r : Answer) (out′ map′ a′ b′ : List ℕ) → Kept2 (sortOutcome img out map a b) out map a b r out′ map′ a′ b′
+    → areasShort a b ≡ false → refusalOf img ≡ 0 → (r ≡ Refused 8) ↔ Cycle (netOf img)
+sort-answers-8 img out map a b r out′ map′ a′ b′ call long sound =
+    rw (call .first .answer) (Iff·trans (sort-8 img out map a b long sound) (sort-fails (netOf img) (valid-net img sound)))
+
 -- ---- 4. Images and calls
 
 -- What is written of a valid network is read as that network, and is accepted.
@@ -238,9 +270,9 @@ reading-what-was-written N valid = read-written N valid .same
 pub written-is-accepted : (N : Net) → Valid N → refusalOf (imageOf N) ≡ 0
 written-is-accepted N valid = read-written N valid .accepted
 
--- What is read of an image of bytes that is accepted is valid, and is written as that image without its prefix.
-pub accepted-is-valid : (img : List ℕ) → Bytes img → refusalOf img ≡ 0 → Valid (netOf img)
-accepted-is-valid img bytes accepted = written-read img bytes accepted .valid
+-- What is read of an accepted image is valid, and is written, if the image consists of bytes, as that image without its prefix.
+pub accepted-is-valid : (img : List ℕ) → refusalOf img ≡ 0 → Valid (netOf img)
+accepted-is-valid img accepted = valid-net img accepted
 
 pub writing-what-was-read : (img : List ℕ) → Bytes img → refusalOf img ≡ 0 → imageOf (netOf img) ≡ bodyOf img
 writing-what-was-read img bytes accepted = written-read img bytes accepted .same
