@@ -64,7 +64,7 @@ pub mod doors {
 }
 "#;
 
-const ENTRIES: [&str; 11] = [
+pub const ENTRIES: [&str; 11] = [
     "ll_read",
     "ll_canonical",
     "ll_dedup",
@@ -91,7 +91,7 @@ fn main() {
 }
 
 /// Where the four files are. Without them there is no oracle, so there is no build.
-fn rust_folder(repository: &Path) -> PathBuf {
+pub fn rust_folder(repository: &Path) -> PathBuf {
     match env::var_os("LANTERNLEAN_RUST") {
         Some(folder) => PathBuf::from(folder),
         None => repository
@@ -126,7 +126,7 @@ fn fail(why: &str) -> ! {
     std::process::exit(1)
 }
 
-fn make_trees(folder: &Path, out: &Path) {
+pub fn make_trees(folder: &Path, out: &Path) {
     for tree in ["unchanged", "ordered"] {
         let place = out.join(tree);
         fs::create_dir_all(&place).unwrap();
@@ -265,7 +265,7 @@ fn host_machine() -> u16 {
 }
 
 /// The names in an archive's own table of symbols, its first member.
-fn symbols(archive: &[u8]) -> Vec<String> {
+pub fn symbols(archive: &[u8]) -> Vec<String> {
     assert!(
         archive.starts_with(b"!<arch>\n") && archive.len() >= 68,
         "the library is no archive"

@@ -1,0 +1,72 @@
+//! The printed tables.
+
+use std::collections::HashMap;
+use std::path::Path;
+
+use crate::cases::Case;
+use crate::measure;
+use crate::ours;
+use crate::work::{rows, PASSES, REFUSED};
+
+type Figures = HashMap<String, f64>;
+
+/// Times of every row, and instructions where they were counted.
+pub fn print(cases: &[Case], counts: Option<&Path>) {
+    for (entry, name) in PASSES {
+        if !ours::has(entry) {
+            println!("{name}: the library has no ll_{name} yet, so it is not measured");
+        }
+    }
+    let mut times = Figures::new();
+    let mut order = Vec::new();
+    for case in cases {
+        for mut row in rows(case) {
+            times.extend(measure::time(case, &mut row));
+            order.push((case.name.clone(), row.name));
+        }
+    }
+    println!("\nmicroseconds for one call\n");
+    table(&order, &times, |ns| format!("{:.2}", ns / 1_000.0));
+    if let Some(folder) = counts {
+        println!("\ninstructions for one call\n");
+        table(&order, &measure::counted(folder), |n| format!("{n:.0}"));
+    }
+}
+
+fn table(order: &[(String, &'static str)], figures: &Figures, shown: impl Fn(f64) -> String) {
+    println!(
+        "| network | work | ours | Rust | ours / Rust | Rust, alone | ours / alone \
+         | ours, alone | alone / alone |"
+    );
+    println!("|---|---|--:|--:|--:|--:|--:|--:|--:|");
+    for (case, row) in order {
+        let figure = |row: &str, side: &str| figures.get(&format!("{case}|{row}|{side}")).copied();
+        let ours = figure(row, "ours");
+        let whole = figure(row, "whole");
+        let rust_alone = figure(row, "alone");
+        // what a pass has and reading has not; what an accepted cycle has and a refused one has not
+        let rest = match *row {
+            "evaluate" => figure(REFUSED, "ours"),
+            _ => figure("read", "ours"),
+        };
+        let ours_alone = match (rust_alone, ours, rest) {
+            (Some(_), Some(ours), Some(rest)) if ours > rest => Some(ours - rest),
+            _ => None,
+        };
+        let show = |x: Option<f64>| x.map_or("-".to_string(), &shown);
+        let ratio = |ours: Option<f64>, rust: Option<f64>| match (ours, rust) {
+            (Some(ours), Some(rust)) if rust > 0.0 => format!("{:.2}", ours / rust),
+            _ => "-".to_string(),
+        };
+        println!(
+            "| {case} | {row} | {} | {} | {} | {} | {} | {} | {} |",
+            show(ours),
+            show(whole),
+            ratio(ours, whole),
+            show(rust_alone),
+            ratio(ours, rust_alone),
+            show(ours_alone),
+            ratio(ours_alone, rust_alone)
+        );
+    }
+}

@@ -1,0 +1,230 @@
+//! The pieces of work: an entry of ours, the Rust from image to image, and the Rust's pass alone.
+
+use std::hint::black_box;
+
+use crate::cases::{Case, LIMIT};
+use crate::image;
+use crate::judge::{self, Call, Entry};
+use crate::ours::{self, Lent};
+use crate::plain::Tables;
+use crate::trees::unchanged::glue as rust;
+use crate::trees::unchanged::optim::share_logic;
+use crate::trees::unchanged::Network;
+
+pub trait Work {
+    /// Makes ready what so many runs use up; not measured.
+    fn prepare(&mut self, _runs: usize) {}
+    fn run(&mut self);
+}
+
+/// Work that uses nothing up.
+struct Plain<F: FnMut()>(F);
+
+impl<F: FnMut()> Work for Plain<F> {
+    fn run(&mut self) {
+        (self.0)()
+    }
+}
+
+fn plain<'a>(work: impl FnMut() + 'a) -> Option<Box<dyn Work + 'a>> {
+    Some(Box::new(Plain(work)))
+}
+
+/// The Rust's pass on a network that stands in memory; copies are made and results dropped outside.
+struct Pass {
+    entry: Entry,
+    net: Network,
+    ready: Vec<Network>,
+    done: Vec<Network>,
+}
+
+impl Work for Pass {
+    fn prepare(&mut self, runs: usize) {
+        self.ready = vec![self.net.clone(); runs];
+        self.done = Vec::with_capacity(runs);
+    }
+
+    fn run(&mut self) {
+        let mut net = self.ready.pop().unwrap();
+        match self.entry {
+            Entry::Canonical => drop(black_box(net.make_canonical())),
+            Entry::Dedup => drop(black_box(net.deduplicate())),
+            Entry::Cleanup => drop(black_box(net.cleanup())),
+            Entry::Sort => drop(black_box(net.topo_sort())),
+            Entry::Flatten => net = share_logic::flatten_nary(&net, LIMIT as usize),
+            Entry::Factor => net = share_logic::factor_nary(&net),
+            _ => share_logic::share_logic(&mut net, LIMIT as usize),
+        }
+        self.done.push(net);
+    }
+}
+
+/// The Rust from image to image: the judge's reader and writer around the pass.
+fn whole(entry: Entry, image: &[u8]) {
+    let net = image::read(image).unwrap().net;
+    let (net, mapping) = match entry {
+        Entry::Read => (net, Vec::new()),
+        Entry::Canonical => rust::canonical(&net),
+        Entry::Dedup => rust::dedup(&net),
+        Entry::Cleanup => rust::cleanup(&net),
+        Entry::Sort => rust::sort(&net),
+        Entry::Flatten => (rust::flatten(&net, LIMIT), Vec::new()),
+        Entry::Factor => (rust::factor(&net), Vec::new()),
+        _ => (rust::share(&net, LIMIT), Vec::new()),
+    };
+    black_box((image::write(&net), mapping));
+}
+
+/// The name of the row whose calls run no cycle.
+pub const REFUSED: &str = "evaluate, refused with 14";
+
+/// What is measured of one network under one name.
+pub struct Row<'a> {
+    pub name: &'static str,
+    pub ours: Option<Box<dyn Work + 'a>>,
+    /// The Rust, with reading and writing.
+    pub whole: Option<Box<dyn Work + 'a>>,
+    /// The Rust without: a pass on a network in memory, a cycle over tables that stand ready.
+    pub alone: Option<Box<dyn Work + 'a>>,
+}
+
+fn call(entry: Entry, case: &Case) -> Call {
+    let mut call = Call::ample(&case.image).taken(entry);
+    call.number = LIMIT;
+    call
+}
+
+/// One call of our entry after the other; the last answer must be the number.
+fn enter<'a>(entry: Entry, case: &'a Case, call: Call, number: u64) -> Option<Box<dyn Work + 'a>> {
+    let mut lent = Lent::new(&call);
+    plain(move || {
+        let answer = black_box(lent.enter(entry, black_box(&case.image), call.number));
+        assert_eq!(answer & 0xffff_ffff, number);
+    })
+}
+
+pub const PASSES: [(Entry, &str); 7] = [
+    (Entry::Canonical, "canonical"),
+    (Entry::Dedup, "dedup"),
+    (Entry::Cleanup, "cleanup"),
+    (Entry::Sort, "sort"),
+    (Entry::Flatten, "flatten"),
+    (Entry::Factor, "factor"),
+    (Entry::Share, "share"),
+];
+
+/// The rows of a network: those whose entries are there and accept it.
+pub fn rows(case: &Case) -> Vec<Row<'_>> {
+    let reader = || plain(|| drop(black_box(image::read(black_box(&case.image)))));
+    let mut rows = vec![
+        Row {
+            name: "check",
+            ours: enter(
+                Entry::Record,
+                case,
+                Call {
+                    number: u32::MAX,
+                    ..call(Entry::Record, case)
+                },
+                0,
+            ),
+            whole: None,
+            alone: None,
+        },
+        Row {
+            name: "check and load",
+            ours: no_room(case),
+            whole: reader(),
+            alone: None,
+        },
+        Row {
+            name: "read",
+            ours: enter(Entry::Read, case, call(Entry::Read, case), 0),
+            whole: plain(|| whole(Entry::Read, black_box(&case.image))),
+            alone: None,
+        },
+    ];
+    for (entry, name) in PASSES {
+        let accepted = judge::answer(entry, &call(entry, case)).number == 0;
+        if !ours::has(entry) || !accepted {
+            continue;
+        }
+        rows.push(Row {
+            name,
+            ours: enter(entry, case, call(entry, case), 0),
+            whole: plain(move || whole(entry, black_box(&case.image))),
+            alone: Some(Box::new(Pass {
+                entry,
+                net: rust::net_in(&case.net),
+                ready: Vec::new(),
+                done: Vec::new(),
+            })),
+        });
+    }
+    if case.net.is_sorted() {
+        rows.extend(evaluation(case));
+    }
+    rows
+}
+
+/// A call of evaluate that is refused once the network is loaded, with 13.
+fn no_room(case: &Case) -> Option<Box<dyn Work + '_>> {
+    let mut short = call(Entry::Evaluate, case);
+    short.inputs.clear();
+    short.state.clear();
+    short.outputs = 0;
+    let number = judge::answer(Entry::Evaluate, &short).number;
+    if number != 13 {
+        return None;
+    }
+    enter(Entry::Evaluate, case, short, 13)
+}
+
+/// Bytes that change with their place.
+pub fn bits(count: usize) -> Vec<u8> {
+    (0..count).map(|k| (k * k / 3 % 2) as u8).collect()
+}
+
+fn evaluation(case: &Case) -> Vec<Row<'_>> {
+    let mut good = call(Entry::Evaluate, case);
+    good.inputs = bits(case.net.inputs as usize);
+    // refused with 14 once every byte was looked at: no cycle is run
+    let mut bad = good.clone();
+    let refused = match case.net.flip_flops().last() {
+        Some(v) => {
+            bad.state[v] = 2;
+            true
+        }
+        None => bad.inputs.last_mut().map(|b| *b = 2).is_some(),
+    };
+    let tables = Tables::new(&case.net);
+    let mut state = vec![0; case.net.nodes.len()];
+    let mut values = state.clone();
+    let mut outputs = vec![0; case.net.outs.len()];
+    let (inputs, mut held) = (good.inputs.clone(), state.clone());
+    let (mut row, mut out) = (values.clone(), outputs.clone());
+    let lent = inputs.clone();
+    vec![
+        Row {
+            name: "evaluate",
+            ours: enter(Entry::Evaluate, case, good, 0),
+            whole: plain(move || {
+                let net = image::read(black_box(&case.image)).unwrap().net;
+                Tables::new(&net).cycle(&lent, &mut held, &mut out, &mut row);
+                black_box(&out);
+            }),
+            alone: plain(move || {
+                tables.cycle(black_box(&inputs), &mut state, &mut outputs, &mut values);
+                black_box(&outputs);
+            }),
+        },
+        Row {
+            name: REFUSED,
+            ours: refused
+                .then(|| enter(Entry::Evaluate, case, bad, 14))
+                .flatten(),
+            whole: None,
+            alone: None,
+        },
+    ]
+}
