@@ -169,6 +169,23 @@ pub fn all() -> Vec<Case> {
         "2,048 gate inputs, Xor of 1,017",
         limits::gate_inputs(2_048, Kind::Xor, 1_017),
     );
+    // limits of flatten, factor and share
+    add(
+        "2,048 gate inputs once flattened",
+        limits::flattened(2_048, Family::And),
+    );
+    add(
+        "4,096 pair places, And",
+        limits::all_out(limits::places(4_096, Family::And)),
+    );
+    add(
+        "4,096 pair places, Xor",
+        limits::all_out(limits::places(4_096, Family::Xor)),
+    );
+    add(
+        "256 And2, 512 nodes once factored",
+        limits::two_input_gates(256, Family::And),
+    );
     // every input inverted and plain, in falling order: the most work for sorting a gate's inputs
     let falling: Vec<u32> = (0..2_048).map(|k| input(k / 2) ^ (k % 2 ^ 1)).collect();
     let mut nodes = vec![Gate::new(Kind::And, &[]); 511];
