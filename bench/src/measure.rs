@@ -25,7 +25,7 @@ pub extern "C" fn bench_mark() {
 fn sides<'a, 'b>(row: &'b mut Row<'a>) -> Vec<(&'static str, &'b mut Box<dyn Work + 'a>)> {
     let all = [
         ("ours", &mut row.ours),
-        ("whole", &mut row.whole),
+        ("reader", &mut row.reader),
         ("alone", &mut row.alone),
     ];
     let there = all

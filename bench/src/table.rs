@@ -42,15 +42,16 @@ fn table(order: &[(String, &'static str)], figures: &Figures, shown: impl Fn(f64
     for (case, row) in order {
         let figure = |row: &str, side: &str| figures.get(&format!("{case}|{row}|{side}")).copied();
         let ours = figure(row, "ours");
-        let whole = figure(row, "whole");
         let rust_alone = figure(row, "alone");
-        // what a pass has and reading has not; what an accepted cycle has and a refused one has not
-        let rest = match *row {
-            "evaluate" => figure(REFUSED, "ours"),
-            _ => figure("read", "ours"),
+        // reading and writing beside a pass, reading beside a cycle; for us, what is not the cycle
+        let (reader, rest) = match *row {
+            "evaluate" => ("check and load", figure(REFUSED, "ours")),
+            _ if rust_alone.is_some() => ("read", figure("read", "ours")),
+            _ => (*row, None),
         };
-        let ours_alone = match (rust_alone, ours, rest) {
-            (Some(_), Some(ours), Some(rest)) if ours > rest => Some(ours - rest),
+        let rust = figure(reader, "reader").map(|r| r + rust_alone.unwrap_or(0.0));
+        let ours_alone = match (ours, rest) {
+            (Some(ours), Some(rest)) if ours > rest => Some(ours - rest),
             _ => None,
         };
         let show = |x: Option<f64>| x.map_or("-".to_string(), &shown);
@@ -61,8 +62,8 @@ fn table(order: &[(String, &'static str)], figures: &Figures, shown: impl Fn(f64
         println!(
             "| {case} | {row} | {} | {} | {} | {} | {} | {} | {} |",
             show(ours),
-            show(whole),
-            ratio(ours, whole),
+            show(rust),
+            ratio(ours, rust),
             show(rust_alone),
             ratio(ours, rust_alone),
             show(ours_alone),

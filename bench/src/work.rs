@@ -1,4 +1,4 @@
-//! The pieces of work: an entry of ours, the Rust from image to image, and the Rust's pass alone.
+//! The pieces of work: an entry of ours, the judge's reader and writer, and the Rust's pass alone.
 
 use std::hint::black_box;
 
@@ -59,22 +59,6 @@ impl Work for Pass {
     }
 }
 
-/// The Rust from image to image: the judge's reader and writer around the pass.
-fn whole(entry: Entry, image: &[u8]) {
-    let net = image::read(image).unwrap().net;
-    let (net, mapping) = match entry {
-        Entry::Read => (net, Vec::new()),
-        Entry::Canonical => rust::canonical(&net),
-        Entry::Dedup => rust::dedup(&net),
-        Entry::Cleanup => rust::cleanup(&net),
-        Entry::Sort => rust::sort(&net),
-        Entry::Flatten => (rust::flatten(&net, LIMIT), Vec::new()),
-        Entry::Factor => (rust::factor(&net), Vec::new()),
-        _ => (rust::share(&net, LIMIT), Vec::new()),
-    };
-    black_box((image::write(&net), mapping));
-}
-
 /// The name of the row whose calls run no cycle.
 pub const REFUSED: &str = "evaluate, refused with 14";
 
@@ -82,9 +66,9 @@ pub const REFUSED: &str = "evaluate, refused with 14";
 pub struct Row<'a> {
     pub name: &'static str,
     pub ours: Option<Box<dyn Work + 'a>>,
-    /// The Rust, with reading and writing.
-    pub whole: Option<Box<dyn Work + 'a>>,
-    /// The Rust without: a pass on a network in memory, a cycle over tables that stand ready.
+    /// The judge's reader, or its reader and writer.
+    pub reader: Option<Box<dyn Work + 'a>>,
+    /// The Rust's pass on a network in memory, or a plain cycle over tables that stand ready.
     pub alone: Option<Box<dyn Work + 'a>>,
 }
 
@@ -115,7 +99,6 @@ pub const PASSES: [(Entry, &str); 7] = [
 
 /// The rows of a network: those whose entries are there and accept it.
 pub fn rows(case: &Case) -> Vec<Row<'_>> {
-    let reader = || plain(|| drop(black_box(image::read(black_box(&case.image)))));
     let mut rows = vec![
         Row {
             name: "check",
@@ -128,19 +111,22 @@ pub fn rows(case: &Case) -> Vec<Row<'_>> {
                 },
                 0,
             ),
-            whole: None,
+            reader: None,
             alone: None,
         },
         Row {
             name: "check and load",
             ours: no_room(case),
-            whole: reader(),
+            reader: plain(|| drop(black_box(image::read(black_box(&case.image))))),
             alone: None,
         },
         Row {
             name: "read",
             ours: enter(Entry::Read, case, call(Entry::Read, case), 0),
-            whole: plain(|| whole(Entry::Read, black_box(&case.image))),
+            reader: plain(|| {
+                let read = image::read(black_box(&case.image)).unwrap();
+                black_box(image::write(&read.net));
+            }),
             alone: None,
         },
     ];
@@ -152,7 +138,7 @@ pub fn rows(case: &Case) -> Vec<Row<'_>> {
         rows.push(Row {
             name,
             ours: enter(entry, case, call(entry, case), 0),
-            whole: plain(move || whole(entry, black_box(&case.image))),
+            reader: None,
             alone: Some(Box::new(Pass {
                 entry,
                 net: rust::net_in(&case.net),
@@ -201,18 +187,12 @@ fn evaluation(case: &Case) -> Vec<Row<'_>> {
     let mut state = vec![0; case.net.nodes.len()];
     let mut values = state.clone();
     let mut outputs = vec![0; case.net.outs.len()];
-    let (inputs, mut held) = (good.inputs.clone(), state.clone());
-    let (mut row, mut out) = (values.clone(), outputs.clone());
-    let lent = inputs.clone();
+    let inputs = good.inputs.clone();
     vec![
         Row {
             name: "evaluate",
             ours: enter(Entry::Evaluate, case, good, 0),
-            whole: plain(move || {
-                let net = image::read(black_box(&case.image)).unwrap().net;
-                Tables::new(&net).cycle(&lent, &mut held, &mut out, &mut row);
-                black_box(&out);
-            }),
+            reader: None,
             alone: plain(move || {
                 tables.cycle(black_box(&inputs), &mut state, &mut outputs, &mut values);
                 black_box(&outputs);
@@ -223,7 +203,7 @@ fn evaluation(case: &Case) -> Vec<Row<'_>> {
             ours: refused
                 .then(|| enter(Entry::Evaluate, case, bad, 14))
                 .flatten(),
-            whole: None,
+            reader: None,
             alone: None,
         },
     ]
