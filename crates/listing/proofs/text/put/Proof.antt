@@ -1,0 +1,15 @@
+use borrow.Author.Needs.{needs}
+use Rattle.listing.proofs.Puts.{bytes}
+use Rattle.listing.proofs.text.put.Statement.{statement}
+use Rattle.listing.proofs.text.put.Tie as tie
+
+pub put-spec : {M : Type 1} → statement M
+put-spec =
+    tie.close
+    (tie.spec
+    (λ c κs. search needs)
+    (λ c. search (needs, bytes))
+    (λ c. search needs)
+    (λ c. search needs)
+    (λ c. search needs)
+    (λ c. search (needs, bytes)))

@@ -1,0 +1,111 @@
+// Numbers, signals and kinds as text, put into a lent buffer at a place: each function answers the place behind. What has no room is
+// left out, and places go on all the same.
+ghost use mathlib.Core.Path.{_≡_};
+ghost use mathlib.Core.List.{[], _∷_};
+ghost use Prim.Native.Nat.{_+_, _<_};
+ghost use Rattle.model.specs.Listing.{decimal, markText, signalText, kindText};
+ghost use Rattle.listing.specs.Putting.{place, Put};
+use kinds::Kind;
+use signal::Signal;
+
+// The place behind one byte. The greatest place stands for all beyond.
+fn next(at: usize) -> usize
+    ensures { λ r. ⌜ r ≡ place (at + 1) ⌝ }
+{
+    if at < 0xFFFF_FFFF_FFFF_FFFF {
+        at + 1
+    } else {
+        at
+    }
+}
+
+pub fn put(out: &mut [u8], at: usize, b: u8) -> usize
+    ensures { λ r. ⌜ Put (now (out .entry)) at (b ∷ []) (now (out .exit)) r ⌝ }
+{
+    if out.len() <= at {
+        return next(at);
+    }
+    out[at] = b;
+    at + 1
+}
+
+pub fn put_all(out: &mut [u8], at: usize, text: &[u8]) -> usize
+    ensures { λ r. ⌜ Put (now (out .entry)) at (now (text .entry)) (now (out .exit)) r ⌝ }
+{
+    let mut p = at;
+    let mut i: usize = 0;
+    while i < text.len() {
+        p = put(out, p, text[i]);
+        i += 1;
+    }
+    p
+}
+
+fn digit(n: u64) -> u8
+    requires { ⌜ n < 10 ⌝ }
+    ensures { λ r. ⌜ r ≡ 48 + n ⌝ }
+{
+    48 + n as u8
+}
+
+// A number in decimal.
+pub fn put_number(out: &mut [u8], at: usize, n: u64) -> usize
+    ensures { λ r. ⌜ Put (now (out .entry)) at (decimal n) (now (out .exit)) r ⌝ }
+{
+    if n < 10 {
+        return put(out, at, digit(n));
+    }
+    let p = put_number(out, at, n / 10);
+    put(out, p, digit(n % 10))
+}
+
+// A letter and a number: x0, i3, o1.
+pub fn put_name(out: &mut [u8], at: usize, letter: u8, n: u64) -> usize
+    ensures { λ r. ⌜ Put (now (out .entry)) at (letter ∷ decimal n) (now (out .exit)) r ⌝ }
+{
+    let p = put(out, at, letter);
+    put_number(out, p, n)
+}
+
+// ! where it is inverted.
+pub fn put_mark(out: &mut [u8], at: usize, inverted: bool) -> usize
+    ensures { λ r. ⌜ Put (now (out .entry)) at (markText inverted) (now (out .exit)) r ⌝ }
+{
+    if inverted { put(out, at, b'!') } else { at }
+}
+
+// 0, 1, x3 or i2, and ! before where it is inverted.
+pub fn put_signal(out: &mut [u8], at: usize, s: Signal) -> usize
+    ensures { λ r. ⌜ Put (now (out .entry)) at (signalText (s .a)) (now (out .exit)) r ⌝ }
+{
+    if s.is_constant() {
+        return put_number(out, at, s.a as u64);
+    }
+    let p = put_mark(out, at, s.is_inverted());
+    if s.is_input() {
+        return put_name(out, p, b'i', s.input() as u64);
+    }
+    put_name(out, p, b'x', s.var() as u64)
+}
+
+pub fn put_kind(out: &mut [u8], at: usize, kind: Kind) -> usize
+    ensures { λ r. ⌜ Put (now (out .entry)) at (kindText kind) (now (out .exit)) r ⌝ }
+{
+    match kind {
+        Kind::And2 => put_all(out, at, b"And2"),
+        Kind::Xor2 => put_all(out, at, b"Xor2"),
+        Kind::And3 => put_all(out, at, b"And3"),
+        Kind::Xor3 => put_all(out, at, b"Xor3"),
+        Kind::Maj => put_all(out, at, b"Maj"),
+        Kind::Mux => put_all(out, at, b"Mux"),
+        Kind::AndN => put_all(out, at, b"AndN"),
+        Kind::OrN => put_all(out, at, b"OrN"),
+        Kind::NandN => put_all(out, at, b"NandN"),
+        Kind::NorN => put_all(out, at, b"NorN"),
+        Kind::XorN => put_all(out, at, b"XorN"),
+        Kind::XnorN => put_all(out, at, b"XnorN"),
+        Kind::Buf => put_all(out, at, b"Buf"),
+        Kind::Dff => put_all(out, at, b"Dff"),
+        Kind::Lut => put_all(out, at, b"Lut"),
+    }
+}
