@@ -1,7 +1,12 @@
 use borrow.Author.Needs.{needs}
-use Rattle.listing.proofs.Texts.{signals}
+use Rattle.listing.proofs.Texts.{mark-put, mark-none}
 use Rattle.listing.proofs.text.put_mark.Statement.{statement}
 use Rattle.listing.proofs.text.put_mark.Tie as tie
+
+returns : tie.Need-returns
+returns c =
+    let p = c .before .before in
+    mark-put _ _ _ (p .before .before .if1 .taken) _ _ (p .put .ensures)
 
 pub put-mark-spec : {M : Type 1} → statement M
 put-mark-spec =
@@ -9,5 +14,5 @@ put-mark-spec =
     (tie.spec
     (λ c κs. search needs)
     (λ c. search needs)
-    (λ c. search (needs, signals))
-    (λ c. search (needs, signals)))
+    returns
+    (λ c. search (needs, mark-none)))
