@@ -10,7 +10,6 @@ use mir.Syntax.{w64}
 use borrow.Author.Tests.{not-false}
 use Rattle.kinds.specs.declared.Kind.{Kind}
 use Rattle.model.specs.Gate.{fitsKind}
-use Rattle.signal.proofs.Masks.{input-high, some-low}
 
 pub fits-true : (k : Kind) (n : ℕ) (t : Bool) → t ≡ fitsKind k n → not t ≡ false → fitsKind k n ≡ true
 fits-true k n t e h = sym e ∙ not-false t h
@@ -22,4 +21,4 @@ part-end l at r h e = omega (arith, simp (length-take, length-drop) at e)
 pub part-fits : (l : List ℕ) (at r : ℕ) → at < length l → r ≤ length (take (length l - at) (drop at l)) → Fits w64 (length l) → Fits w64 (at + r)
 part-fits l at r h e f = let k = part-end l at r h e in record { fits = omega arith }
 
-pub ruleset facts = (input-high, some-low, fits-true, part-end, part-fits)
+pub ruleset facts = (fits-true, part-end, part-fits)

@@ -7,6 +7,10 @@ use gates::canonical::make_canonical;
 use kinds::Kind;
 use libc::STDIN_FILENO;
 use libc::STDOUT_FILENO;
+use listing::text::put;
+use listing::text::put_all;
+use listing::text::put_mark;
+use listing::text::put_signal;
 
 mod records;
 mod text;
@@ -14,7 +18,7 @@ mod text;
 // A line's left side, into out: the gate as it was read.
 fn print_gate(out: &mut [u8], kind: Kind, list: &[u32], n: usize, table: u64) {
     let end = text::put_gate(out, 0, kind, list, n, table);
-    let next = text::put_all(out, end, b" -> ");
+    let next = put_all(out, end, b" -> ");
     flush(out, next);
 }
 
@@ -22,11 +26,11 @@ fn print_gate(out: &mut [u8], kind: Kind, list: &[u32], n: usize, table: u64) {
 fn print_normal(out: &mut [u8], r: Normalization, list: &[u32], table: u64) {
     match r {
         Normalization::Copy(s) => {
-            let end = text::put_signal(out, 0, s);
+            let end = put_signal(out, 0, s);
             end_line(out, end);
         }
         Normalization::Node { kind, count, inv } => {
-            let at = text::put_if(out, 0, b'!', inv);
+            let at = put_mark(out, 0, inv);
             let end = text::put_gate(out, at, kind, list, count, table);
             end_line(out, end);
         }
@@ -34,7 +38,7 @@ fn print_normal(out: &mut [u8], r: Normalization, list: &[u32], table: u64) {
 }
 
 fn end_line(out: &mut [u8], at: usize) {
-    let next = text::put(out, at, b'\n');
+    let next = put(out, at, b'\n');
     flush(out, next);
 }
 
