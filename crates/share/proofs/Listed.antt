@@ -15,16 +15,16 @@ use Rattle.tables.specs.Holding.{networkOf}
 use Rattle.tables.specs.Working.{Answered}
 use Rattle.tables.specs.declared.counts.Counts.{Counts}
 use Rattle.lanternlean.proofs.Working.{refused-is, network-is, network-holds, network-held}
-use Rattle.share.specs.Texts.{textOutcome}
+use Rattle.share.specs.Texts.{listOutcome}
 
 module _ (img l : List ℕ) (x : Loaded) (R : Read (refusalOf img) img l x) (text : List ℕ) where
-  pub list-refused : (n : ℕ) → x ≡ Refused n → Answered (textOutcome img (length text)) text (answers.Refused n) text
-  unfolding textOutcome
+  pub list-refused : (n : ℕ) → x ≡ Refused n → Answered (listOutcome img (length text)) text (answers.Refused n) text
+  unfolding listOutcome
   list-refused n q = let z = refused-is (refusalOf img) img l x R n q (written (listingOf (netOf img)) []) in record { answer = rw z; result = rw z }
 
   pub list-written : (c : Counts) → x ≡ Network c → (r : Answer) (text′ : List ℕ)
-      → Answered (inRoom (length text) 0 (written (listingOf (networkOf l c)) [])) text r text′ → Answered (textOutcome img (length text)) text r text′
-  unfolding textOutcome
+      → Answered (inRoom (length text) 0 (written (listingOf (networkOf l c)) [])) text r text′ → Answered (listOutcome img (length text)) text r text′
+  unfolding listOutcome
   list-written c q r text′ D =
       let z = network-is (refusalOf img) img l x R c q (written (listingOf (netOf img)) []) in
       let e : networkOf l c ≡ netOf img = network-holds (refusalOf img) img l x R c q .net in

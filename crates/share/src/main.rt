@@ -5,36 +5,32 @@ ghost use Prim.Native.Nat.{_≤_};
 ghost use lib.ListN.{length};
 ghost use Rattle.tables.specs.Layout.{netSize};
 ghost use Rattle.tables.specs.Working.{Answered};
-ghost use Rattle.share.specs.Texts.{textOutcome};
+ghost use Rattle.share.specs.Texts.{refusedText, listOutcome, textFor, printedOf, Shown, Lent};
 use answers::Answer;
 use lanternlean::read::read;
 use libc::STDIN_FILENO;
 use libc::STDOUT_FILENO;
 use listing::listing;
+use listing::text::put;
+use listing::text::put_all;
+use listing::text::put_number;
 use load::Loaded;
 use load::load_image;
 
-fn print(text: &[u8]) {
-    io::write_all(STDOUT_FILENO, text);
+// `refused` and the number, at the front of the text. Its length, as each of these answers.
+fn refuse(n: u32, text: &mut [u8]) -> usize
+    requires { ⌜ 32768 ≤ length (now text) ⌝ }
+    ensures { λ r. ⌜ Shown (refusedText n) (now (text .entry)) (now (text .exit)) r ⌝ }
+{
+    let number = put_all(text, 0, b"refused ");
+    let end = put_number(text, number, n as u64);
+    put(text, end, b'\n')
 }
 
-// The first n bytes of a text.
-fn print_front(text: &[u8], n: usize) {
-    if n <= text.len() {
-        print(&text[..n]);
-    }
-}
-
-fn print_refused(n: u32) {
-    print(b"refused ");
-    io::print_decimal(STDOUT_FILENO, n as u64);
-    print(b"\n");
-}
-
-// The listing of an image's network, at the front of the text.
+// The listing of an image's network.
 fn list(image: &[u8], area: &mut [u32], text: &mut [u8]) -> Answer
     requires { ⌜ netSize ≤ length (now area) ⌝ }
-    ensures { λ r. ⌜ Answered (textOutcome (now (image .entry)) (length (now (text .entry)))) (now (text .entry)) r (now (text .exit)) ⌝ }
+    ensures { λ r. ⌜ Answered (listOutcome (now (image .entry)) (length (now (text .entry)))) (now (text .entry)) r (now (text .exit)) ⌝ }
 {
     let l = load_image(image, area);
     match l {
@@ -43,40 +39,33 @@ fn list(image: &[u8], area: &mut [u32], text: &mut [u8]) -> Answer
     }
 }
 
-fn print_listing(image: &[u8], area: &mut [u32], text: &mut [u8])
-    requires { ⌜ netSize ≤ length (now area) ⌝ }
+// The same, or the number that refuses it.
+fn show(image: &[u8], area: &mut [u32], text: &mut [u8]) -> usize
+    requires { ⌜ Lent (now area) (now text) ⌝ }
+    ensures { λ r. ⌜ Shown (textFor (listOutcome (now (image .entry)) (length (now (text .entry))))) (now (text .entry)) (now (text .exit)) r ⌝ }
 {
     let r = list(image, area, text);
     match r {
-        Answer::Refused(n) => print_refused(n),
-        Answer::Accepted(len) => print_front(text, len),
+        Answer::Refused(n) => refuse(n, text),
+        Answer::Accepted(len) => len,
     }
 }
 
-// The image is at the front of out, and len bytes long.
-fn print_image(out: &[u8], len: usize, area: &mut [u32], text: &mut [u8])
-    requires { ⌜ netSize ≤ length (now area) ⌝ }
-{
-    if len <= out.len() {
-        print_listing(&out[..len], area, text);
-    }
-}
-
-fn print_shared(input: &[u8], out: &mut [u8], a: &mut [u32], b: &mut [u32], text: &mut [u8])
-    requires { ⌜ netSize ≤ length (now a) ⌝ }
+// What is printed of the input.
+fn answer(input: &[u8], out: &mut [u8], a: &mut [u32], b: &mut [u32], text: &mut [u8]) -> usize
+    requires { ⌜ Lent (now a) (now text) ⌝ }
+    ensures { λ r. ⌜ Shown (printedOf (now (input .entry)) (now (out .entry)) (now (a .entry)) (now (b .entry)) (length (now (text .entry)))) (now (text .entry)) (now (text .exit)) r ⌝ }
 {
     if input.len() < 4 {
-        print_refused(2);
-        return;
+        return refuse(2, text);
     }
     if 16384 < input.len() {
-        print_refused(2);
-        return;
+        return refuse(2, text);
     }
     let r = read(&input[4..], out, a, b);
     match r {
-        Answer::Refused(n) => print_refused(n),
-        Answer::Accepted(len) => print_image(out, len, a, text),
+        Answer::Refused(n) => refuse(n, text),
+        Answer::Accepted(len) => show(&out[..len], a, text),
     }
 }
 
@@ -87,5 +76,6 @@ fn main() {
     let mut b = [0u32; 16384];
     let mut text = [0u8; 32768];
     let n = io::read_full(STDIN_FILENO, &mut input);
-    print_shared(&input[..n], &mut out, &mut a, &mut b, &mut text);
+    let len = answer(&input[..n], &mut out, &mut a, &mut b, &mut text);
+    io::write_all(STDOUT_FILENO, &text[..len]);
 }
