@@ -1,3 +1,4 @@
 pub mod Listed
 pub mod Shows
 pub mod Printed
+pub mod Entry

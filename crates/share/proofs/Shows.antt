@@ -4,16 +4,15 @@ use Prim.Native.Nat.{ℕ, _+_, _-_, _≤_, _<_, _^_}
 use native.Mathlib.Omega.{arith}
 use mathlib.Core.Bool.{_&&_}
 use mathlib.Core.List.{List, [], _∷_, _++_, append-assoc}
-use lib.ListN.{length, take, drop, length-append, length-drop}
-use lib.Seq.{take-at, take-all}
+use lib.ListN.{length, take, drop, length-append}
+use lib.Seq.{take-at}
 use lib.Dec.{eqb, leb}
 use borrow.Author.Tests.{lt-ltb, le-ltb}
 use Rattle.answers.specs.declared.Answer.{Answer}
 use Rattle.answers.specs.declared.Answer.the-variants.{Accepted, Refused}
 use Rattle.laws.proofs.Choices.{by-bool}
 use Rattle.model.specs.Answers.{Outcome, refused, written, evaluated, answerOf, resultAfter, laidOver, areasShort, inAreas, inRoom, unless, Kept}
-use Rattle.model.specs.Entries.{readOutcome}
-use Rattle.model.specs.Image.{refusalOf, netOf, imageOf}
+use Rattle.model.specs.Image.{refusalOf, netOf}
 use Rattle.model.specs.Listing.{ascii, decimal, line, spaced, listingOf}
 use Rattle.tables.specs.Working.{Answered}
 use Rattle.listing.specs.Putting.{Put}
@@ -46,35 +45,33 @@ refused-shown n {b} {b1} {b2} {b3} {p} {q} {r} h l m P1 P2 P3 =
 
 -- ---- an outcome that is no cycle's
 
-abbrev pub Plain : Outcome → Type 0
+unfoldable pub Plain : Outcome → Type 0
 Plain (refused n) = Unit
 Plain (written image mapping) = Unit
 Plain (evaluated outputs state) = ⊥
 
-plain-unless : (n : ℕ) (o : Outcome) → Plain o → Plain (unless n o)
-unfolding unless
+pub plain-written : (image mapping : List ℕ) → Plain (written image mapping)
+unfolding Plain
+plain-written image mapping = tt
+
+pub plain-unless : (n : ℕ) (o : Outcome) → Plain o → Plain (unless n o)
+unfolding Plain unless
 plain-unless n o h = by-bool (eqb n 0) (λ e. rw e h) (λ e. rw e tt)
 
-plain-room : (room mapping : ℕ) (o : Outcome) → Plain o → Plain (inRoom room mapping o)
+pub plain-room : (room mapping : ℕ) (o : Outcome) → Plain o → Plain (inRoom room mapping o)
+unfolding Plain
 plain-room room mapping (refused n) h = tt
 plain-room room mapping (written w m) h = by-bool (leb (length w) room && leb (length m) mapping) (λ e. rw e tt) (λ e. rw e tt)
 
-plain-areas : (a b : List ℕ) (o : Outcome) → Plain o → Plain (inAreas a b o)
-unfolding inAreas
+pub plain-areas : (a b : List ℕ) (o : Outcome) → Plain o → Plain (inAreas a b o)
+unfolding Plain inAreas
 plain-areas a b o h = by-bool (areasShort a b) (λ e. rw e tt) (λ e. rw e h)
 
 plain-list : (img : List ℕ) (room : ℕ) → Plain (listOutcome img room)
 unfolding listOutcome
 plain-list img room =
     let o = written (listingOf (netOf img)) [] in
-    plain-room room 0 (unless (refusalOf img) o) (plain-unless (refusalOf img) o tt)
-
-plain-read : (img out a b : List ℕ) → Plain (readOutcome img out a b)
-unfolding readOutcome
-plain-read img out a b =
-    let o = written (imageOf (netOf img)) [] in
-    let u = unless (refusalOf img) o in
-    plain-areas a b (inRoom (length out) 0 u) (plain-room (length out) 0 u (plain-unless (refusalOf img) o tt))
+    plain-room room 0 (unless (refusalOf img) o) (plain-unless (refusalOf img) o (plain-written (listingOf (netOf img)) []))
 
 -- a result that was laid over a buffer had room
 laid-room : (x b : List ℕ) → length (laidOver x b) ≡ length b → length x ≤ length b
@@ -91,6 +88,7 @@ outcome-refused (evaluated w m) b n b1 e f b2 p S = let z : _≡_ {A = ℕ} 0 1 
 
 outcome-written : (o : Outcome) → Plain o → (b : List ℕ) (n : ℕ) (b1 : List ℕ) → Accepted n ≡ answerOf o → b1 ≡ resultAfter o b → length b1 ≡ length b
     → Shown (textFor o) b b1 n
+unfolding Plain
 outcome-written (refused m) h b n b1 e f l = let z : _≡_ {A = ℕ} 0 1 = cc in absurd (omega arith)
 outcome-written (written w m) h b n b1 e f l = record { bytes = f; end = cc; room = laid-room w b (ap length (sym f) ∙ l) }
 
@@ -113,7 +111,7 @@ module _ (text t′ : List ℕ) (r : ℕ) where
 
   printed-listed : (o : Outcome) → Plain o → (out : List ℕ) (n : ℕ) (out1 : List ℕ) → Accepted n ≡ answerOf o → out1 ≡ resultAfter o out
       → Shown (textFor (listOutcome (take n out1) (length text))) text t′ r → Shown (printedFor o (length text)) text t′ r
-  unfolding laidOver
+  unfolding Plain laidOver
   printed-listed (refused m) h out n out1 e f S = let z : _≡_ {A = ℕ} 0 1 = cc in absurd (omega arith)
   printed-listed (written w m) h out n out1 e f S =
       let z : n ≡ length w = cc in
@@ -125,34 +123,25 @@ module _ (input out a b text t′ : List ℕ) (r : ℕ) where
   unfolding printedOf
   answer-short h S = rw (lt-ltb (length input) 4 h) S
 
-  module _ (h : 4 ≤ length input) where
-    pub answer-long : 16384 < length input → Shown (refusedText 2) text t′ r → Shown (printedOf input out a b (length text)) text t′ r
-    unfolding printedOf
-    answer-long k S = rw (le-ltb (length input) 4 h, lt-ltb 16384 (length input) k) S
+  pub answer-long : 4 ≤ length input → 16384 < length input → Shown (refusedText 2) text t′ r → Shown (printedOf input out a b (length text)) text t′ r
+  unfolding printedOf
+  answer-long h k S = rw (le-ltb (length input) 4 h, lt-ltb 16384 (length input) k) S
 
-    module _ (k : length input ≤ 16384) where
-      printed : Shown (printedFor (readOutcome (take (length input - 4) (drop 4 input)) out a b) (length text)) text t′ r
-          → Shown (printedOf input out a b (length text)) text t′ r
-      unfolding printedOf
-      printed S =
-          let e : take (length input - 4) (drop 4 input) ≡ drop 4 input = take-all (length input - 4) (drop 4 input) (omega (arith, length-drop 4 input)) in
-          rw (le-ltb (length input) 4 h, le-ltb 16384 (length input) k) (rw e at S)
+  -- o is the outcome of the entry that was called
+  module _ (o : Outcome) (x : Answer) (out1 a1 b1 : List ℕ) (K : Kept o out a b x out1 a1 b1) (e : printedOf input out a b (length text) ≡ printedFor o (length text))
+      (n : ℕ) where
+    pub answer-refused : x ≡ Refused n → Shown (refusedText n) text t′ r → Shown (printedOf input out a b (length text)) text t′ r
+    answer-refused q S = rw e (printed-refused text t′ r o n (sym q ∙ K .answer) S)
 
-      module _ (x : Answer) (out1 a1 b1 : List ℕ) (K : Kept (readOutcome (take (length input - 4) (drop 4 input)) out a b) out a b x out1 a1 b1) where
-        pub answer-refused : (n : ℕ) → x ≡ Refused n → Shown (refusedText n) text t′ r → Shown (printedOf input out a b (length text)) text t′ r
-        answer-refused n q S = printed (printed-refused text t′ r (readOutcome (take (length input - 4) (drop 4 input)) out a b) n (sym q ∙ K .answer) S)
-
-        pub answer-listed : (n : ℕ) → x ≡ Accepted n → Shown (textFor (listOutcome (take n out1) (length text))) text t′ r
-            → Shown (printedOf input out a b (length text)) text t′ r
-        answer-listed n q S =
-            let o = readOutcome (take (length input - 4) (drop 4 input)) out a b in
-            printed (printed-listed text t′ r o (plain-read (take (length input - 4) (drop 4 input)) out a b) out n out1 (sym q ∙ K .answer) (K .result) S)
+    pub answer-listed : Plain o → x ≡ Accepted n → Shown (textFor (listOutcome (take n out1) (length text))) text t′ r
+        → Shown (printedOf input out a b (length text)) text t′ r
+    answer-listed h q S = rw e (printed-listed text t′ r o h out n out1 (sym q ∙ K .answer) (K .result) S)
 
 -- the image that an entry wrote is within its buffer
-pub image-room : (img out a b : List ℕ) (x : Answer) (out1 a1 b1 : List ℕ) → Kept (readOutcome img out a b) out a b x out1 a1 b1 → (n : ℕ) → x ≡ Accepted n
+pub image-room : (o : Outcome) → Plain o → (out a b : List ℕ) (x : Answer) (out1 a1 b1 : List ℕ) → Kept o out a b x out1 a1 b1 → (n : ℕ) → x ≡ Accepted n
     → length out1 ≡ length out → n ≤ length out1
-image-room img out a b x out1 a1 b1 K n q l =
-    let S = outcome-written (readOutcome img out a b) (plain-read img out a b) out n out1 (sym q ∙ K .answer) (K .result) l in
+image-room o h out a b x out1 a1 b1 K n q l =
+    let S = outcome-written o h out n out1 (sym q ∙ K .answer) (K .result) l in
     omega (arith, S .end, S .room)
 
 pub ruleset answers = (answer-short, answer-long, answer-refused, answer-listed, image-room)
