@@ -95,15 +95,15 @@ module _ (f : Family) (from l₀ : List ℕ) (v limit start : ℕ) (M : Merges f
           below : Names (λ w. w < v) s
           below = let a = length-insAt from v in rw signal-is at (all-at (Names (λ w. w < v)) (insAt from v) 0 (M .below) j (omega arith))
 
-          pub gather-becoming : Becoming l v s (at - start + (n - j - 1)) at
-          gather-becoming = record {
+          pub gather-becoming : (used : ℕ) → used ≤ 4096 → Becoming l v s used at
+          gather-becoming used few = record {
             packed = gather-packed;
             opening = record {
               long = gather-packed .long;
               few = M .packed .few;
               ends = λ w q. omega (arith, gather-packed .ends w q, inv .room);
               below = names-below v s below;
-              small = omega (arith, inv .room, M .ends);
+              small = few;
             };
           }
 
@@ -167,4 +167,4 @@ module _ (f : Family) (from l₀ : List ℕ) (v limit start : ℕ) (M : Merges f
           words = λ p. inv .words;
         })
 
-pub ruleset gathers = (gather-node, gather-source, gather-start, gather-from, gather-left, gather-read, gather-read-fits, gather-becoming, gather-next, gather-full, gather-end)
+pub ruleset gathers = (gather-node, gather-source, gather-start, gather-from, gather-left, gather-read, gather-read-fits, gather-end)

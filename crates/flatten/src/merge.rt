@@ -114,15 +114,8 @@ pub fn merge_dependencies(
     let mut j: usize = 0;
     while j < n {
         let left = n - j - 1;
-        let r = merge_one(
-            to,
-            v,
-            f,
-            input_at(from, first + j),
-            at - start + left,
-            limit,
-            at,
-        );
+        let s = input_at(from, first + j);
+        let r = merge_one(to, v, f, s, at - start + left, limit, at);
         let Pushed::To(next) = r else {
             return Pushed::Full;
         };

@@ -1,6 +1,7 @@
 use Prim.Native.Nat.{_-_}
+use native.Mathlib.Omega.{arith}
 use borrow.Author.Needs.{needs}
-use Rattle.flatten.proofs.Dependencies.{Gathered, gathers}
+use Rattle.flatten.proofs.Dependencies.{Gathered, gather-becoming, gather-full, gather-next, gathers}
 use Rattle.flatten.proofs.merge.merge_dependencies.Statement.{statement}
 use Rattle.flatten.proofs.merge.merge_dependencies.Tie as tie
 
@@ -9,6 +10,15 @@ Inv-loop from to₀ v f limit start first n at₀ j₀ to at j = Gathered f from
 
 abbrev μ-loop : tie.MeasureT-loop
 μ-loop from to₀ v f limit start first n at₀ j₀ to at j = n - j
+
+merge-one-requires : tie.Need-merge-one-requires Inv-loop μ-loop
+merge-one-requires c κs = gather-becoming _ _ _ _ _ _ (c .before .before .before .before .before .before .before .before .pre) _ _ _ (c .before .before .before .loop .inv) _ (c .before .before .before .before .count-at .ensures) (omega arith) _ (c .before .before .before .before .before .first-at .ensures) _ (c .before .input-at .ensures) _ (omega arith)
+
+returns : tie.Need-returns Inv-loop μ-loop
+returns c = gather-full _ _ _ _ _ _ (c .before .before .before .before .before .before .before .before .before .before .before .before .before .pre) _ _ _ (c .before .before .before .before .before .before .before .before .loop .inv) _ (c .before .before .before .before .before .before .before .before .before .count-at .ensures) (omega arith) _ (c .before .before .before .before .before .before .before .before .before .before .first-at .ensures) _ (c .before .before .before .before .before .before .input-at .ensures) _ _ (c .before .before .before .before .merge-one .ensures) (search needs)
+
+loop-again : tie.Need-loop-again Inv-loop μ-loop
+loop-again c = gather-next _ _ _ _ _ _ (c .before .before .before .before .before .before .before .before .before .before .before .before .before .before .pre) _ _ _ (c .before .before .before .before .before .before .before .before .before .loop .inv) _ (c .before .before .before .before .before .before .before .before .before .before .count-at .ensures) (omega arith) _ (c .before .before .before .before .before .before .before .before .before .before .before .first-at .ensures) _ (c .before .before .before .before .before .before .before .input-at .ensures) _ _ (c .before .before .before .before .before .merge-one .ensures) _ (search needs) (search needs)
 
 pub merge-dependencies-spec : {M : Type 1} → statement M
 merge-dependencies-spec =
@@ -25,13 +35,13 @@ merge-dependencies-spec =
     (λ c κs. search (needs, gathers))
     (λ c. search (needs, gathers))
     (λ c. search (needs, gathers))
-    (λ c κs. search (needs, gathers))
+    merge-one-requires
     (λ c. search (needs, gathers))
     (λ c. search (needs, gathers))
     (λ c. search (needs, gathers))
+    returns
     (λ c. search (needs, gathers))
     (λ c. search (needs, gathers))
-    (λ c. search (needs, gathers))
-    (λ c. search (needs, gathers))
+    loop-again
     (λ c. search (needs, gathers))
     (λ c. search (needs, gathers)))
