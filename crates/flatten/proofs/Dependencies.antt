@@ -17,7 +17,7 @@ use Rattle.model.specs.Sharing.{inside, mergeDependencies, opened}
 use Rattle.model.specs.Signal.{Ref, isInverted, ref, rinput, rnode, rzero}
 use Rattle.model.proofs.Names.{In, Names}
 use Rattle.tables.specs.Building.{Packed}
-use Rattle.tables.specs.Layout.{countAt, firstAt, gateAt, inputAt, insAt, netSize}
+use Rattle.tables.specs.Layout.{countAt, firstAt, gateAt, inputAt, insAt}
 use Rattle.laws.proofs.Lists.{all-at}
 use Rattle.shape.proofs.Flatten.{merge-grows}
 use Rattle.shape.proofs.Wires.{names-below}
@@ -54,12 +54,6 @@ pub record Gathered (f : Family) (from l₀ l : List ℕ) (v limit start at j : 
   pub rest : mergeDependencies f (gateAt l₀) limit (insAt from v) [] ≡ mergeDependencies f (gateAt l₀) limit (drop j (insAt from v)) ret
 
 module _ (f : Family) (from l₀ : List ℕ) (v limit start : ℕ) (M : Merges from l₀ v start) where
-  pub gather-node : v < 512
-  gather-node = M .node
-
-  pub gather-source : netSize ≤ length from
-  gather-source = M .source
-
   pub gather-start : Gathered f from l₀ l₀ v limit start start 0
   unfolding putWords
   gather-start = record { ret = []; upto = omega arith; same = refl; place = omega arith; room = M .packed .room; words = refl; rest = refl }
@@ -167,4 +161,4 @@ module _ (f : Family) (from l₀ : List ℕ) (v limit start : ℕ) (M : Merges f
           words = λ p. inv .words;
         })
 
-pub ruleset gathers = (gather-node, gather-source, gather-start, gather-from, gather-left, gather-read, gather-read-fits, gather-end)
+pub ruleset gathers = (gather-start, gather-from, gather-left, gather-read, gather-read-fits, gather-end)

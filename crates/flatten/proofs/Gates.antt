@@ -4,11 +4,11 @@ use mathlib.Core.Path.{ap, refl, sym, _∙_, _≡_}
 use mathlib.Core.Bool.{Bool, false, true}
 use mathlib.Core.List.{List, [], _++_, _∷_}
 use native.Mathlib.Omega.{arith}
-use mir.Syntax.{w32, w64}
+use mir.Syntax.{w32}
 use mir.Val.{Fits}
 use lib.ListN.{getD, length}
-use Rattle.flatten.specs.Pushing.{Merges, Pushes, behind, inputsFrom, putWords}
-use Rattle.flatten.specs.Flattening.{Copies, Flattens, Grew, Puts}
+use Rattle.flatten.specs.Pushing.{Merges, Pushes, inputsFrom, putWords}
+use Rattle.flatten.specs.Flattening.{Flattens, Grew, Puts}
 use Rattle.kinds.specs.Kinds.{codeOf, inFamily, kindOf, wideOf}
 use Rattle.kinds.specs.declared.Family.{Family}
 use Rattle.kinds.specs.declared.Family.the-variants.{And, Xor}
@@ -58,48 +58,21 @@ module _ (from l : List ℕ) (v at : ℕ) (P : Puts from l v at) where
   length-gate : length (gateAt from v .ins) ≡ countAt from v
   length-gate = ap length (ins-gate from v) ∙ length-insAt from v
 
-  pub copy-node : v < 512
-  copy-node = P .node
-
-  pub copy-source : netSize ≤ length from
-  copy-source = P .source
-
-  pub copy-room : at ≤ 2048
-  copy-room = P .packed .room
-
-  pub copy-long : netSize ≤ length l
-  copy-long = P .packed .long
-
   module _ (n : ℕ) (en : n ≡ countAt from v) where
     pub copy-full : 2048 - at < n → Grew l l v at (gateAt from v) Full
     copy-full h = grew-full l l v at (gateAt from v) (omega (arith, length-gate, P .packed .room))
 
-    module _ (h : n ≤ 2048 - at) where
-      pub copy-fits : Fits w64 (at + n)
-      copy-fits = record { fits = omega (arith, P .packed .room) }
-
-      pub copy-at : Fits w32 at
-      copy-at = record { fits = omega (arith, P .packed .room) }
-
-      pub copy-count : Fits w32 n
-      copy-count = record { fits = omega (arith, P .packed .room) }
-
-      module _ (f : ℕ) (ef : f ≡ firstAt from v) where
-        pub copy-inputs : Copies from l f at n
-        copy-inputs = record { source = P .source; long = P .packed .long; ends = omega (arith, P .ends); room = omega (arith, P .packed .room) }
-
-        pub copy-done : (k lo hi : ℕ) (m o q : List ℕ) → k ≡ kindAt from v → lo ≡ lowAt from v → hi ≡ highAt from v
-            → m ≡ putInputs l at (inputsFrom from f) n → o ≡ putGate m v k at n → q ≡ putTable o v lo hi → Grew l q v at (gateAt from v) (To (at + n))
-        copy-done k lo hi m o q ek el eh em eo eq =
-            let g = gateAt from v in
-            let w : m ≡ putWords l at (g .ins) = insAt-words from l v at m (em ∙ rw (en, ef)) ∙ ap (putWords l at) (sym (ins-gate from v)) in
-            let e : length (g .ins) ≡ n = length-gate ∙ sym en in
-            let x : Grew l q v at g (To (at + length (g .ins))) =
-            grew-to l q v at g (P .packed) (P .node) (omega (arith, P .packed .room)) lo hi (table-gate from v lo hi el eh)
-            (eq ∙ rw (eo, w, ek, ← (kind-gate from v), ← e)) in
-            rw e at x
-
-pub ruleset gateCopies = (copy-node, copy-source, copy-room, copy-long, copy-full, copy-fits, copy-at, copy-count, copy-inputs, copy-done)
+    module _ (h : n ≤ 2048 - at) (f : ℕ) (ef : f ≡ firstAt from v) where
+      pub copy-done : (k lo hi : ℕ) (m o q : List ℕ) → k ≡ kindAt from v → lo ≡ lowAt from v → hi ≡ highAt from v
+          → m ≡ putInputs l at (inputsFrom from f) n → o ≡ putGate m v k at n → q ≡ putTable o v lo hi → Grew l q v at (gateAt from v) (To (at + n))
+      copy-done k lo hi m o q ek el eh em eo eq =
+          let g = gateAt from v in
+          let w : m ≡ putWords l at (g .ins) = insAt-words from l v at m (em ∙ rw (en, ef)) ∙ ap (putWords l at) (sym (ins-gate from v)) in
+          let e : length (g .ins) ≡ n = length-gate ∙ sym en in
+          let x : Grew l q v at g (To (at + length (g .ins))) =
+          grew-to l q v at g (P .packed) (P .node) (omega (arith, P .packed .room)) lo hi (table-gate from v lo hi el eh)
+          (eq ∙ rw (eo, w, ek, ← (kind-gate from v), ← e)) in
+          rw e at x
 
 -- ---- merge_gate
 
@@ -110,9 +83,6 @@ module _ (f : Family) (from l : List ℕ) (v limit at : ℕ) (M : Merges from l 
 
   merged-ins : flatBy f (gateAt l) limit (gateAt from v) ≡ gateOf (wideOf f) gathered
   merged-ins = ap (λ x. gateOf (wideOf f) (mergeDependencies f (gateAt l) limit x [])) (ins-gate from v)
-
-  pub merge-node : v < 512
-  merge-node = M .node
 
   module _ (m : List ℕ) (r : Pushed) (P : Pushes l m at (mergeDependencies f (gateAt l) limit (insAt from v) []) r) where
     pub merge-full : r ≡ Full → Grew l m v at (flatBy f (gateAt l) limit (gateAt from v)) Full
@@ -128,9 +98,6 @@ module _ (f : Family) (from l : List ℕ) (v limit at : ℕ) (M : Merges from l 
       pub merge-from : at ≤ end
       merge-from = omega (arith, end-is)
 
-      pub merge-at : Fits w32 at
-      merge-at = record { fits = omega (arith, fits) }
-
       pub merge-count : Fits w32 (end - at)
       merge-count = record { fits = omega (arith, fits, end-is) }
 
@@ -144,20 +111,11 @@ module _ (f : Family) (from l : List ℕ) (v limit at : ℕ) (M : Merges from l 
           rw (merged-ins, end-is)
           (grew-to l q v at (gateOf (wideOf f) gathered) (M .packed) (M .node) fits 0 0 refl (eq ∙ rw (eo, P .words fits, ek, eK, c)))
 
-pub ruleset mergers = (merge-node, merge-full, merge-from, merge-at, merge-count, merge-long, merge-done)
+pub ruleset mergers = (merge-full, merge-from, merge-count, merge-long)
 
 -- ---- flatten_gate
 
 module _ (from l : List ℕ) (v at : ℕ) (F : Flattens from l v at) where
-  pub flat-node : v < 512
-  flat-node = F .puts .node
-
-  pub flat-source : netSize ≤ length from
-  flat-source = F .puts .source
-
-  pub flat-puts : Puts from l v at
-  flat-puts = F .puts
-
   module _ (k : ℕ) (K : Kind) (ek : k ≡ kindAt from v) (eK : K ≡ kindOf k) where
     inside-is : (f : Family) (b t : Bool) → b ≡ inFamily K f → b ≡ t → inside f (gateAt from v) ≡ t
     inside-is f b t eb h = rw (kind-gate from v, ← ek, ← eK, ← eb) h
@@ -185,4 +143,4 @@ module _ (from l : List ℕ) (v at : ℕ) (F : Flattens from l v at) where
         unfolding flatGate
         flat-other q G = rw (inside-is And a false ea h, inside-is Xor x false ex q) G
 
-pub ruleset flattens = (flat-node, flat-source, flat-puts, flat-merges, flat-and, flat-xor, flat-other)
+pub ruleset flattens = (flat-merges, flat-and, flat-xor)

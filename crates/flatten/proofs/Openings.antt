@@ -16,7 +16,7 @@ use Rattle.kinds.specs.declared.Kind.{Kind}
 use Rattle.model.specs.Gate.{Gate}
 use Rattle.model.specs.Sharing.{inside, opened}
 use Rattle.model.specs.Signal.{isInverted, isVar, ref}
-use Rattle.tables.specs.Layout.{countAt, gateAt, insAt, kindAt, netSize}
+use Rattle.tables.specs.Layout.{countAt, gateAt, insAt, kindAt}
 use Rattle.laws.proofs.Bools.{and-assoc, and-left}
 use Rattle.laws.proofs.Choices.{by-bool}
 use Rattle.shape.proofs.Wires.{Other, is-input, is-zero, other-names, var-low, var-names}
@@ -58,7 +58,7 @@ module _ (l : List ℕ) (v s used : ℕ) (P : Opening l v s used) where
           let e : s / 2 - 1 ≡ w = sym (ew ∙ ex) in
           rw (is-node, e, kind-gate l w, length-ins l w, ei, et, eK, ek, en, el)
 
-pub ruleset openings = (opens-other, opens-low, opens-few, opens-fits, opens-done)
+pub ruleset openings = (opens-other, opens-low, opens-few, opens-fits)
 
 -- ---- merge_one
 
@@ -77,15 +77,6 @@ unfolding gateAt
 ins-gate l w = refl
 
 module _ (l : List ℕ) (v s used at : ℕ) (P : Becoming l v s used at) where
-  pub one-opening : Opening l v s used
-  one-opening = P .opening
-
-  pub one-room : at ≤ 2048
-  one-room = P .packed .room
-
-  pub one-long : netSize ≤ length l
-  one-long = P .packed .long
-
   module _ (f : Family) (limit : ℕ) (b : Bool) (eb : b ≡ opens f (gateAt l) limit used s) where
     module _ (h : b ≡ true) where
       is-var : isVar s ≡ true
@@ -107,4 +98,4 @@ module _ (l : List ℕ) (v s used at : ℕ) (P : Becoming l v s used at) where
     pub one-kept : b ≡ false → (m : List ℕ) (r : Pushed) → Pushes l m at (s ∷ []) r → Pushes l m at (opened f (gateAt l) limit used s (ref s)) r
     one-kept h m r q = rw (opened-is f (gateAt l) limit used s, ← eb, h) q
 
-pub ruleset ones = (one-opening, one-room, one-long, one-low, one-reading, one-opened, one-kept)
+pub ruleset ones = (one-low, one-reading, one-opened, one-kept)

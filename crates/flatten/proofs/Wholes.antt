@@ -183,9 +183,6 @@ unfolding networkOf netOf
 inputs-kept from c = refl
 
 module _ (from l : List ℕ) (c : Counts) (limit : ℕ) (M : Mergeable from l c) where
-  pub whole-source : netSize ≤ length from
-  whole-source = M .held .long
-
   pub whole-outs : c .outs ≤ 64
   whole-outs = outs-few from c (M .held)
 
@@ -215,4 +212,4 @@ module _ (from l : List ℕ) (c : Counts) (limit : ℕ) (M : Mergeable from l c)
           (outputsOf-putOutputs m o (c .outs) whole-outs (P .long) ∙ sym (merged-outs (networkOf from c) limit ∙ outs-are from c)));
     }
 
-pub ruleset wholes = (whole-source, whole-outs, whole-long, whole-full, whole-done)
+pub ruleset wholes = (whole-outs, whole-long, whole-full, whole-done)

@@ -185,12 +185,6 @@ unfolding insAt inputsFrom
 insAt-words from l w at m e = e ∙ putInputs-words l at (λ j. inputAt from (firstAt from w + j)) (countAt from w)
 
 module _ (l : List ℕ) (v w at : ℕ) (P : Reading l v w at) where
-  pub open-few : w < 512
-  open-few = let few = P .packed .few in let h = P .below in omega arith
-
-  pub open-long : netSize ≤ length l
-  open-long = P .packed .long
-
   module _ (n : ℕ) (en : n ≡ countAt l w) where
     pub open-full : 2048 - at < n → Pushes l l at (insAt l w) Full
     open-full h =
@@ -199,22 +193,18 @@ module _ (l : List ℕ) (v w at : ℕ) (P : Reading l v w at) where
         let q : 2048 < at + length (insAt l w) = omega arith in
         record { answer = sym (behind-none at (length (insAt l w)) q); words = λ p. absurd (omega arith) }
 
-    module _ (h : n ≤ 2048 - at) where
-      pub open-fits : Fits w64 (at + n)
-      open-fits = let r = P .packed .room in record { fits = omega arith }
+    module _ (h : n ≤ 2048 - at) (f : ℕ) (ef : f ≡ firstAt l w) where
+      pub open-within : Within l f at n
+      open-within = record { long = P .packed .long; ends = omega (arith, P .packed .ends w (P .below)); room = let r = P .packed .room in omega arith }
 
-      module _ (f : ℕ) (ef : f ≡ firstAt l w) where
-        pub open-within : Within l f at n
-        open-within = record { long = P .packed .long; ends = omega (arith, P .packed .ends w (P .below)); room = let r = P .packed .room in omega arith }
+      pub open-done : (m : List ℕ) → m ≡ putInputs l at (inputsFrom l f) n → Pushes l m at (insAt l w) (To (at + n))
+      open-done m em =
+          let a = length-insAt l w in
+          let r = P .packed .room in
+          let e : length (insAt l w) ≡ n = a ∙ sym en in
+          record {
+            answer = rw e (sym (behind-fits at n (omega arith)));
+            words = λ q. insAt-words l l w at m (em ∙ rw (en, ef));
+          }
 
-        pub open-done : (m : List ℕ) → m ≡ putInputs l at (inputsFrom l f) n → Pushes l m at (insAt l w) (To (at + n))
-        open-done m em =
-            let a = length-insAt l w in
-            let r = P .packed .room in
-            let e : length (insAt l w) ≡ n = a ∙ sym en in
-            record {
-              answer = rw e (sym (behind-fits at n (omega arith)));
-              words = λ q. insAt-words l l w at m (em ∙ rw (en, ef));
-            }
-
-pub ruleset openNodes = (open-few, open-long, open-full, open-fits, open-within, open-done)
+pub ruleset openNodes = (open-full, open-within, open-done)

@@ -1,5 +1,4 @@
-use Rattle.flatten.proofs.Openings.{opens-done}
-use Rattle.flatten.proofs.Openings.{openings}
+use Rattle.flatten.proofs.Openings.{openings, opens-done}
 use borrow.Author.Needs.{needs}
 use Rattle.flatten.proofs.merge.opens.Statement.{statement}
 use Rattle.flatten.proofs.merge.opens.Tie as tie

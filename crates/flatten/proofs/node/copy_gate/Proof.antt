@@ -1,7 +1,5 @@
-use Rattle.flatten.proofs.Gates.{copy-full}
-use Rattle.flatten.proofs.Gates.{copy-done}
+use Rattle.flatten.proofs.Gates.{copy-done, copy-full}
 use native.Mathlib.Omega.{arith}
-use Rattle.flatten.proofs.Gates.{gateCopies}
 use borrow.Author.Needs.{needs}
 use Rattle.flatten.proofs.node.copy_gate.Statement.{statement}
 use Rattle.flatten.proofs.node.copy_gate.Tie as tie

@@ -1,5 +1,4 @@
-use Rattle.flatten.proofs.Gates.{flat-other}
-use Rattle.flatten.proofs.Gates.{flattens}
+use Rattle.flatten.proofs.Gates.{flat-other, flattens}
 use borrow.Author.Needs.{needs}
 use Rattle.flatten.proofs.node.flatten_gate.Statement.{statement}
 use Rattle.flatten.proofs.node.flatten_gate.Tie as tie

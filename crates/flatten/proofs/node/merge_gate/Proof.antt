@@ -1,5 +1,4 @@
-use Rattle.flatten.proofs.Gates.{merge-done}
-use Rattle.flatten.proofs.Gates.{mergers}
+use Rattle.flatten.proofs.Gates.{merge-done, mergers}
 use borrow.Author.Needs.{needs}
 use Rattle.flatten.proofs.node.merge_gate.Statement.{statement}
 use Rattle.flatten.proofs.node.merge_gate.Tie as tie
