@@ -1,2 +1,3 @@
+-- What the contracts of `flatten` cite.
 pub mod Pushing
 pub mod Flattening
