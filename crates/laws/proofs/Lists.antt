@@ -7,7 +7,7 @@ use native.Mathlib.Omega.{arith}
 use native.Mathlib.Decide.{ℕ-discrete}
 use mathlib.Core.Bool.{Bool, true, false}
 use mathlib.Core.List.{List, [], _∷_, _++_, map}
-use lib.ListN.{length, getD, take}
+use lib.ListN.{length, getD, set, take}
 use lib.Dec.{eqb}
 use borrow.Author.Tests.{eqb-true}
 use Rattle.laws.proofs.Bools.{or-left, or-right}
@@ -33,6 +33,15 @@ all-of P (x ∷ xs) d h = (h zero (suc-le-suc zero-le), all-of P xs d (λ j l. h
 pub all-append {ℓ} : {A : Type 0} (P : A → Type ℓ) (a b : List A) → All P a → All P b → All P (a ++ b)
 all-append P [] b x y = y
 all-append P (s ∷ a) b x y = (x .0, all-append P a b (x .1) y)
+
+pub map-all {ℓ ℓ′} : {A B : Type 0} {P : A → Type ℓ} (Q : B → Type ℓ′) (f : A → B) (l : List A) → ((a : A) → P a → Q (f a)) → All P l → All Q (map f l)
+map-all Q f [] h p = tt
+map-all Q f (x ∷ l) h p = (h x (p .0), map-all Q f l h (p .1))
+
+pub set-all {ℓ} : {A : Type 0} (P : A → Type ℓ) (l : List A) (i : ℕ) (a : A) → All P l → P a → All P (set l i a)
+set-all P [] i a h k = tt
+set-all P (x ∷ l) zero a h k = (k, h .1)
+set-all P (x ∷ l) (suc i) a h k = (h .0, set-all P l i a (h .1) k)
 
 -- ---- no repeats
 

@@ -13,13 +13,14 @@ use borrow.Author.Tests.{eq-eqb, ne-eqb}
 use Rattle.laws.specs.Lists.{All, Fresh, Distinct}
 use Rattle.laws.proofs.Bools.{and-left, and-right}
 use Rattle.laws.proofs.Choices.{by-bool, clash}
-use Rattle.laws.proofs.Lists.{all-map, all-append, distinct-append}
+use Rattle.laws.proofs.Lists.{all-map, all-both, distinct-append, map-all}
 use Rattle.model.specs.Signal.{fromVar}
 use Rattle.model.specs.Network.{has}
 use Rattle.model.specs.Normal.{without}
 use Rattle.model.specs.Sharing.{Pair, State, exclusiveSignals, factoring, giveBack, holds, joinRound, once, replaceIn, replacePair, retain, roundLeft, roundPairs, sharedSignals, takeOut}
 use Rattle.model.proofs.Lists.{by-keep, without-all, without-stays}
 use Rattle.shape.proofs.Members.{has-tail}
+use Rattle.shape.proofs.FactoringLists.{replaceIn-all, retain-all}
 use Rattle.shape.proofs.FactoringFuel.{Two, TwoIn}
 use Rattle.shape.proofs.FactoringSteps.{allPairs-keeps, consume-keeps, joins-keep}
 use Rattle.shape.proofs.FactoringEnds.{factoring-parts, given, paired}
@@ -147,14 +148,10 @@ abbrev pub Low : ℕ → ℕ → Type 0
 Low n x = (v : ℕ) → n ≤ v → v < 1073741823 → x ≢ fromVar v
 
 replaced-low : (p q n : ℕ) (l : List ℕ) → All (Low n) l → All (Low (suc n)) (replaceIn p q (fromVar n) l)
-unfolding replaceIn
 replaced-low p q n l h =
     let k : All (Low (suc n)) l = all-map l (λ x f v a b. f v (omega arith) b) h in
     let new : Low (suc n) (fromVar n) = λ v a b e. omega arith in
-    by-bool (holds p q l)
-    (λ e. rw (e, takeOut-without p q l)
-    (all-append (Low (suc n)) (without q (without p l)) (fromVar n ∷ []) (without-all (Low (suc n)) q (without p l) (without-all (Low (suc n)) p l k)) (new, tt)))
-    (λ e. rw e k)
+    replaceIn-all (Low (suc n)) p q (fromVar n) l new k
 
 replaced-distinct : (p q n : ℕ) (l : List ℕ) → n < 1073741823 → All (Low n) l → Distinct l → Distinct (replaceIn p q (fromVar n) l)
 unfolding replaceIn
@@ -164,27 +161,10 @@ replaced-distinct p q n l few h d = by-bool (holds p q l)
     (all-map (without q (without p l)) (λ x f. ((λ r. f n (le-refl n) few (sym r)), tt)) (without-all (Low n) q (without p l) (without-all (Low n) p l h)))))
     (λ e. rw e d)
 
-lists-low : (p q n : ℕ) (gs : List (List ℕ)) → All (All (Low n)) gs → All (All (Low (suc n))) (map (replaceIn p q (fromVar n)) gs)
-lists-low p q n [] h = tt
-lists-low p q n (l ∷ gs) h = (replaced-low p q n l (h .0), lists-low p q n gs (h .1))
-
-lists-distinct : (p q n : ℕ) (gs : List (List ℕ)) → n < 1073741823 → All (All (Low n)) gs → All Distinct gs → All Distinct (map (replaceIn p q (fromVar n)) gs)
-lists-distinct p q n [] few h d = tt
-lists-distinct p q n (l ∷ gs) few h d = (replaced-distinct p q n l few (h .0) (d .0), lists-distinct p q n gs few (h .1) (d .1))
-
-retain-all : (P : ℕ → Type 0) (t : ℕ → Bool) (l : List ℕ) → All P l → All P (retain t l)
-unfolding retain
-retain-all P t [] h = tt
-retain-all P t (x ∷ l) h = by-bool (t x) (λ e. rw e (h .0, retain-all P t l (h .1))) (λ e. rw e (retain-all P t l (h .1)))
-
 retain-distinct : (t : ℕ → Bool) (l : List ℕ) → Distinct l → Distinct (retain t l)
 unfolding retain
 retain-distinct t [] d = tt
 retain-distinct t (x ∷ l) d = by-bool (t x) (λ e. rw e (retain-all (λ y. y ≢ x) t l (d .0), retain-distinct t l (d .1))) (λ e. rw e (retain-distinct t l (d .1)))
-
-retains : (P Q : List ℕ → Type 0) (t : ℕ → Bool) → ((l : List ℕ) → P l → Q (retain t l)) → (gs : List (List ℕ)) → All P gs → All Q (map (retain t) gs)
-retains P Q t f [] h = tt
-retains P Q t f (l ∷ gs) h = (f l (h .0), retains P Q t f gs (h .1))
 
 -- ---- the invariant
 
@@ -218,8 +198,10 @@ module _ (F : Monoid) (n₀ : ℕ) where
               vals-replaced F ρ a b (fromVar (s .next)) (s .lists) (twos-differ a b (s .lists) (h .distinct) t) (h .distinct) new
               ∙ h .valued .values ρ (built-left F ρ n₀ (s .built) (x ∷ []) bu);
         };
-        distinct = lists-distinct a b (s .next) (s .lists) few (h .low) (h .distinct);
-        low = lists-low a b (s .next) (s .lists) (h .low);
+        distinct =
+            map-all Distinct (replaceIn a b (fromVar (s .next))) (s .lists) (λ l q. replaced-distinct a b (s .next) l few (q .0) (q .1))
+            (all-both (All (Low (s .next))) Distinct (s .lists) (h .low) (h .distinct));
+        low = map-all (All (Low (suc (s .next)))) (replaceIn a b (fromVar (s .next))) (s .lists) (replaced-low a b (s .next)) (h .low);
       }
 
   valued-round : (gs : List (List ℕ)) (s : State) (i : ℕ) → Valued gs s → Valued gs (joinRound s i)
@@ -247,8 +229,8 @@ module _ (F : Monoid) (n₀ : ℕ) where
         (consume-keeps (Kept hs) (kept-replace hs) _ (length gs)
         (λ few. record {
           valued = record { next-is = omega arith; values = λ ρ bu. refl };
-          distinct = retains Distinct Distinct t (retain-distinct t) gs tidy;
-          low = retains (All (Low n₀)) (All (Low n₀)) t (retain-all (Low n₀) t) gs old;
+          distinct = map-all Distinct (retain t) gs (retain-distinct t) tidy;
+          low = map-all (All (Low n₀)) (retain t) gs (retain-all (Low n₀) t) old;
         }))
 
     given-valued : given gs n₀ .next ≤ 1073741823 → Valued gs (given gs n₀)

@@ -28,6 +28,7 @@ use Rattle.model.proofs.Words.{input-ref, node-ref}
 use Rattle.shape.proofs.DedupNormal.{dff-is}
 use Rattle.shape.proofs.FactoringEnds.{factoring-parts, given, paired}
 use Rattle.shape.proofs.FactoringFuel.{TwoIn}
+use Rattle.shape.proofs.FactoringLists.{retain-all, takeOut-all}
 use Rattle.shape.proofs.FactoringGrown.{ended, grown-nodes, grown-sound, length-replaced, size-grown, valid-grown}
 use Rattle.shape.proofs.FactoringSound.{Known, Rising}
 use Rattle.shape.proofs.FactoringSteps.{allPairs-keeps, consume-keeps, joins-keep}
@@ -148,18 +149,6 @@ along-given R [] ls os a b = tt
 along-given R (n ∷ ns) [] os a b = tt
 along-given R (n ∷ ns) (l ∷ ls) [] a b = a
 along-given R (n ∷ ns) (l ∷ ls) (o ∷ os) a b = (all-append (R n) l o (a .0) (b .0), along-given R ns ls os (a .1) (b .1))
-
--- ---- what a list keeps
-
-retain-all : (P : ℕ → Type 0) (t : ℕ → Bool) (l : List ℕ) → All P l → All P (retain t l)
-unfolding retain
-retain-all P t [] h = tt
-retain-all P t (x ∷ l) h = by-bool (t x) (λ e. rw e (h .0, retain-all P t l (h .1))) (λ e. rw e (retain-all P t l (h .1)))
-
-takeOut-all : (P : ℕ → Type 0) (p q : ℕ) (l : List ℕ) → All P l → All P (takeOut p q l)
-unfolding takeOut
-takeOut-all P p q [] h = tt
-takeOut-all P p q (x ∷ l) h = by-bool (eqb x p || eqb x q) (λ e. rw e (takeOut-all P p q l (h .1))) (λ e. rw e (h .0, takeOut-all P p q l (h .1)))
 
 -- ---- the pass keeps each list under its gate's number
 

@@ -2,21 +2,20 @@
 use Prim.Native.Nat.{suc, zero, ℕ, _+_, _<_, _≤_}
 use mathlib.Core.Path.{refl, _≡_}
 use mathlib.Core.Logic.{inl, inr, _⊎_}
-use mathlib.Core.Bool.{Bool, not, _||_}
+use mathlib.Core.Bool.{Bool, not}
 use mathlib.Core.List.{List, [], map, _++_, _∷_}
 use native.Mathlib.Omega.{arith}
 use native.Mathlib.Nat.{add-zero}
-use lib.ListN.{getD, length, length-append, set}
-use lib.Dec.{eqb}
+use lib.ListN.{getD, length, length-append}
 use Rattle.laws.specs.Lists.{All}
 use Rattle.model.specs.Network.{has}
-use Rattle.model.specs.Sharing.{Pair, State, exclusiveSignals, factoring, giveBack, holds, joinRound, once, replaceIn, replacePair, retain, roundLeft, roundPairs, sharedSignals, takeOut}
+use Rattle.model.specs.Sharing.{Pair, State, exclusiveSignals, factoring, giveBack, holds, joinRound, once, replaceIn, replacePair, retain, roundLeft, roundPairs, sharedSignals}
 use Rattle.model.specs.Signal.{fromVar}
 use Rattle.laws.proofs.Bools.{and-left, and-right}
-use Rattle.laws.proofs.Choices.{by-bool}
-use Rattle.laws.proofs.Lists.{all-append, all-map}
+use Rattle.laws.proofs.Lists.{all-append, all-map, map-all, set-all}
 use Rattle.shape.proofs.FactoringEnds.{factoring-parts, given, paired}
 use Rattle.shape.proofs.FactoringFuel.{TwoIn}
+use Rattle.shape.proofs.FactoringLists.{replaceIn-all, retain-all}
 use Rattle.shape.proofs.FactoringSteps.{allPairs-keeps, consume-keeps, joins-keep}
 use Rattle.shape.proofs.Members.{all-has}
 
@@ -36,30 +35,14 @@ pub record Sound (P : ℕ → Type 0) (n₀ : ℕ) (s : State) : Type 0 where
 
 -- ---- lists of what P holds of
 
-retain-all : (P : ℕ → Type 0) (t : ℕ → Bool) (l : List ℕ) → All P l → All P (retain t l)
-unfolding retain
-retain-all P t [] h = tt
-retain-all P t (x ∷ l) h = by-bool (t x) (λ e. rw e (h .0, retain-all P t l (h .1))) (λ e. rw e (retain-all P t l (h .1)))
-
-takeOut-all : (P : ℕ → Type 0) (p q : ℕ) (l : List ℕ) → All P l → All P (takeOut p q l)
-unfolding takeOut
-takeOut-all P p q [] h = tt
-takeOut-all P p q (x ∷ l) h = by-bool (eqb x p || eqb x q) (λ e. rw e (takeOut-all P p q l (h .1))) (λ e. rw e (h .0, takeOut-all P p q l (h .1)))
-
 retains-all : (P : ℕ → Type 0) (t : ℕ → Bool) (gs : List (List ℕ)) → All (All P) gs → All (All P) (map (retain t) gs)
-retains-all P t [] h = tt
-retains-all P t (l ∷ gs) h = (retain-all P t l (h .0), retains-all P t gs (h .1))
+retains-all P t gs h = map-all (All P) (retain t) gs (λ l. retain-all P t l) h
 
 given-all : (P : ℕ → Type 0) (gs os : List (List ℕ)) → All (All P) gs → All (All P) os → All (All P) (giveBack gs os)
 unfolding giveBack
 given-all P [] os h k = tt
 given-all P (l ∷ gs) [] h k = h
 given-all P (l ∷ gs) (o ∷ os) h k = (all-append P l o (h .0) (k .0), given-all P gs os (h .1) (k .1))
-
-set-all : {A : Type 0} (P : A → Type 0) (gs : List A) (i : ℕ) (l : A) → All P gs → P l → All P (set gs i l)
-set-all P [] i l h k = tt
-set-all P (m ∷ gs) zero l h k = (k, h .1)
-set-all P (m ∷ gs) (suc i) l h k = (h .0, set-all P gs i l (h .1) k)
 
 module _ (P : ℕ → Type 0) (n₀ : ℕ) where
   pub known-more : (m n x : ℕ) → m ≤ n → Known P n₀ m x → Known P n₀ n x
@@ -89,14 +72,6 @@ module _ (P : ℕ → Type 0) (n₀ : ℕ) where
   two-known Q a b (l ∷ gs) (inl t) h = (all-has Q l a (h .0) (and-left (has a l) (has b l) (t .both)), all-has Q l b (h .0) (and-right (has a l) (has b l) (t .both)))
   two-known Q a b (l ∷ gs) (inr t) h = two-known Q a b gs t (h .1)
 
-  in-all : (Q : ℕ → Type 0) (p q z : ℕ) (l : List ℕ) → Q z → All Q l → All Q (replaceIn p q z l)
-  unfolding replaceIn
-  in-all Q p q z l k h = by-bool (holds p q l) (λ e. rw e (all-append Q (takeOut p q l) (z ∷ []) (takeOut-all Q p q l h) (k, tt))) (λ e. rw e h)
-
-  ins-all : (Q : ℕ → Type 0) (p q z : ℕ) (gs : List (List ℕ)) → Q z → All (All Q) gs → All (All Q) (map (replaceIn p q z) gs)
-  ins-all Q p q z [] k h = tt
-  ins-all Q p q z (l ∷ gs) k h = (in-all Q p q z l k (h .0), ins-all Q p q z gs k (h .1))
-
   sound-replace : (s : State) (a b : ℕ) → TwoIn a b (s .lists) → Sound P n₀ s → Sound P n₀ (replacePair s a b)
   unfolding replacePair
   sound-replace s a b t h =
@@ -104,7 +79,10 @@ module _ (P : ℕ → Type 0) (n₀ : ℕ) where
       let e = h .next-is in
       record {
         next-is = rw length-append (omega arith);
-        lists-known = ins-all (Known P n₀ (suc (s .next))) a b (fromVar (s .next)) (s .lists) (known-new (s .next) (omega arith)) (known-lists (s .next) (suc (s .next)) (s .lists) (omega arith) (h .lists-known));
+        lists-known =
+            map-all (All (Known P n₀ (suc (s .next)))) (replaceIn a b (fromVar (s .next))) (s .lists)
+            (λ l m. replaceIn-all (Known P n₀ (suc (s .next))) a b (fromVar (s .next)) l (known-new (s .next) (omega arith)) (known-all (s .next) (suc (s .next)) l (omega arith) m))
+            (h .lists-known);
         pairs-known = rising-append n₀ (s .built) _ (h .pairs-known) (rw (← e) (k, tt));
       }
 
