@@ -16,7 +16,7 @@ use Rattle.laws.proofs.Bools.{true-false, and-left, and-right}
 use Rattle.laws.proofs.Lists.{all-map, by-two, by-three}
 use Rattle.model.specs.Signal.{isInverted, ind, neg, withoutInversion, isConstant}
 use Rattle.model.specs.Gate.{Gate, fitsKind, fitsTable, shaped}
-use Rattle.model.specs.Normal.{made, gateOf, made2, made3, andSorted, makeAnd, xorSorted, makeXor, and3Sorted, makeAnd3, xor3Sorted, makeXor3, muxPlain, muxSelect, makeMux, majPlain, majSorted, makeMaj, makeDff, without, opposed, andSome, andWide, andTidy, makeAndN, parity, xorSome, makeXorN, normalK, makeCanonical, rises, sortedN, noInv, proper, muxCanonical, dffCanonical, canonicalK, isCanonical}
+use Rattle.model.specs.Normal.{made, gateOf, made2, made3, andSorted, makeAnd, xorSorted, makeXor, and3Sorted, makeAnd3, xor3Sorted, makeXor3, muxPlain, muxSelect, makeMux, majPlain, majSorted, makeMaj, makeDff, opposed, andSome, andWide, andTidy, makeAndN, parity, xorSome, makeXorN, normalK, makeCanonical, rises, sortedN, noInv, proper, muxCanonical, dffCanonical, canonicalK, isCanonical}
 use Rattle.model.proofs.Words.{flip-ind, plain-stays}
 use Rattle.model.proofs.Order.{least-le, most-le, low-stays, mid-stays, high-stays}
 use Rattle.model.proofs.Lists.{Up, up-asc, without-stays, sorted-stays, uniq-stays, cancel-stays}
@@ -26,7 +26,7 @@ use Rattle.meaning.proofs.Canonical.{Canon, canon-of-canonical}
 -- ---- what the tests of is_canonical say
 
 -- each index below those after it
-abbrev Rise : List ℕ → Type 0
+abbrev pub Rise : List ℕ → Type 0
 Rise [] = Unit
 Rise (x ∷ l) = All (λ y. x / 2 < y / 2) l × Rise l
 
@@ -39,7 +39,7 @@ rise (x ∷ y ∷ l) h =
     let k : x / 2 < y / 2 = ltb-true (x / 2) (y / 2) (and-left (rises x y) (sortedN (y ∷ l)) h) in
     ((k, all-map l (λ z q. omega arith) (r .0)), r)
 
-proper-rise : (l : List ℕ) → proper l ≡ true → Rise l
+pub proper-rise : (l : List ℕ) → proper l ≡ true → Rise l
 unfolding proper
 proper-rise l h = rise l (and-left (sortedN l) (not (isConstant (getD l 0 0))) h)
 

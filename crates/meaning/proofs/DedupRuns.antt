@@ -1,25 +1,24 @@
 -- dedup and canonical: the same outputs in every cycle from zero, and the mapped signal carries each old node's value.
 use mathlib.Core.Path.{_≡_, refl, sym, ap, _∙_, subst}
 use mathlib.Core.Logic.{_⊎_, inl, inr}
-use Prim.Native.Nat.{ℕ, _≤_, _<_}
+use Prim.Native.Nat.{ℕ, _<_}
 use native.Mathlib.Omega.{arith}
-use mathlib.Core.Bool.{Bool, true, false, cond}
-use mathlib.Core.List.{List, map}
-use lib.ListN.{length, getD}
+use mathlib.Core.Bool.{Bool, true, false}
+use mathlib.Core.List.{List}
 use Rattle.laws.specs.Bools.{xor}
-use Rattle.model.specs.Signal.{ref, isInverted, flip, fromVar, remapOrder}
-use Rattle.model.specs.Gate.{Gate, Net, isDff, remapGate, noGate, gateAt, size, shaped, isTopoSorted, Valid}
+use Rattle.model.specs.Signal.{ref, isInverted, fromVar}
+use Rattle.model.specs.Gate.{Gate, Net, isDff, remapGate, gateAt, size, shaped, isTopoSorted, Valid}
 use Rattle.model.specs.Evaluate.{at, signalValue, gateValue, shows, Consistent, evaluate, after, allZero, runFromZero}
 use Rattle.model.specs.Normal.{Norm, copied, made, makeCanonical, normValue}
 use Rattle.model.specs.Network.{Work, remapDff, dedupWith, dedupMap, asIs, deduplicate, canonical}
 use Rattle.model.proofs.Words.{flip-false, zero-ref, zero-inv}
-use Rattle.model.proofs.Names.{In, Sorted, sorted, wired-ins, wired-out}
+use Rattle.model.proofs.Names.{sorted, wired-ins, wired-out}
 use Rattle.model.proofs.Forward.{shows-comb, evaluate-sorted}
 use Rattle.shape.proofs.Named.{shaped-at}
 use Rattle.shape.proofs.Sort.{sorted-ranked}
 use Rattle.shape.proofs.DedupNormal.{NormLaw, asIs-law, canonical-law}
 use Rattle.shape.proofs.DedupPlace.{Result}
-use Rattle.shape.proofs.DedupSweep.{isD, asked, asked-cell, asked-kind}
+use Rattle.shape.proofs.DedupSweep.{asked, asked-cell, asked-kind}
 use Rattle.shape.proofs.Dedup.{W, last, result-size, result-gate, result-outs, map-is, turned-comb, turned-cell, dedup-size, dedup-sorted}
 use Rattle.meaning.proofs.Values.{value-flip}
 use Rattle.meaning.proofs.GateValues.{value-of-canonical, Stuck, flip-flop-of-canonical}

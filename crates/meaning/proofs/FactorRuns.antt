@@ -26,23 +26,18 @@ use Rattle.model.proofs.Forward.{shows-comb}
 use Rattle.shape.specs.Room.{roomOf}
 use Rattle.shape.proofs.Sort.{sort-valid, sort-sorted}
 use Rattle.shape.proofs.FactoringEnds.{One}
-use Rattle.shape.proofs.FactoringGrown.{ended, grown-nodes, ended-one, length-replaced, size-grown, grown-sound, valid-grown}
+use Rattle.shape.proofs.FactoringGrown.{taken-all, ended, grown-nodes, ended-one, length-replaced, size-grown, grown-sound, valid-grown}
 use Rattle.shape.proofs.FactoringPass.{pass-room, pass-sorts}
 use Rattle.shape.proofs.Flatten.{inside-comb}
-use Rattle.meaning.proofs.NaryValues.{Monoid, val}
+use Rattle.meaning.proofs.NaryValues.{Monoid, val, unit-right}
 use Rattle.meaning.proofs.Valuations.{value-node}
 use Rattle.meaning.proofs.SortRuns.{sort-solves, sort-runs}
 use Rattle.meaning.proofs.DedupRuns.{canonical-runs}
 use Rattle.meaning.proofs.Tidy.{Tidy}
-use Rattle.meaning.proofs.FamilyValues.{monoidOf, unit-right, value-of-family, value-of-pair, pair-inside, numbers-run}
+use Rattle.meaning.proofs.FamilyValues.{monoidOf, value-of-family, value-of-pair, pair-inside, numbers-run}
 use Rattle.meaning.proofs.FactorValues.{Built, Low, Valued, factoring-valued}
 
 -- ---- the gates that a pass takes
-
-taken-all : (P : List ℕ → Type 0) (f : Family) (gs : List Gate) → All (λ (g : Gate). takes f g ≡ true → P (g .ins)) gs → All P (taken f gs)
-unfolding taken
-taken-all P f [] h = tt
-taken-all P f (g ∷ gs) h = by-bool (takes f g) (λ e. rw e (h .0 e, taken-all P f gs (h .1))) (λ e. rw e (taken-all P f gs (h .1)))
 
 taken-some : (f : Family) (gs : List Gate) (n : ℕ) → n < length gs → takes f (getD gs n noGate) ≡ true → 0 < length (taken f gs)
 unfolding taken
@@ -77,7 +72,7 @@ module _ (F : Monoid) (ρ : ℕ → Bool) where
 
   buf-of : (l m : List ℕ) → One m → val F ρ m ≡ val F ρ l → BufOf l (gateOf Buf m)
   buf-of l [] o e = absurd (omega arith)
-  buf-of l (x ∷ []) o e = (x, refl, sym (unit-right F ρ (ρ x)) ∙ e)
+  buf-of l (x ∷ []) o e = (x, refl, sym (unit-right F (ρ x)) ∙ e)
   buf-of l (x ∷ y ∷ m) o e = absurd (omega arith)
 
   replaced-taken : (f : Family) (gs : List Gate) (ls : List (List ℕ)) → All One ls → map (val F ρ) ls ≡ map (val F ρ) (taken f gs)

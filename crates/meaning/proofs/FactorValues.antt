@@ -24,8 +24,8 @@ use Rattle.shape.proofs.FactoringLists.{replaceIn-all, retain-all}
 use Rattle.shape.proofs.FactoringFuel.{Two, TwoIn}
 use Rattle.shape.proofs.FactoringSteps.{allPairs-keeps, consume-keeps, joins-keep}
 use Rattle.shape.proofs.FactoringEnds.{factoring-parts, given, paired}
-use Rattle.meaning.proofs.NaryValues.{Monoid, val}
-use Rattle.meaning.proofs.FamilyValues.{op-swap, unit-right, val-append, val-retain}
+use Rattle.meaning.proofs.NaryValues.{Monoid, val, op-swap, unit-right}
+use Rattle.meaning.proofs.FamilyValues.{val-append, val-retain}
 
 -- ---- a pair taken out of a list without repeats
 
@@ -79,7 +79,7 @@ module _ (F : Monoid) (ρ : ℕ → Bool) where
   val-without x [] d h = clash h refl
   val-without x (y ∷ l) d h = elim (ℕ-discrete y x) [
     | yes e ↦ (let f : Fresh x l = rw e at (d .0) in rw (eq-eqb y x e) (ap₂ (F .op) (ap ρ e) (ap (val F ρ) (sym (without-stays x l f)))))
-    | no e ↦ rw (ne-eqb y x e) (ap (F .op (ρ y)) (val-without x l (d .1) (has-tail x y l e h)) ∙ op-swap F ρ (ρ y) (ρ x) (val F ρ (without x l)))
+    | no e ↦ rw (ne-eqb y x e) (ap (F .op (ρ y)) (val-without x l (d .1) (has-tail x y l e h)) ∙ op-swap F (ρ y) (ρ x) (val F ρ (without x l)))
   ]
 
   -- a pair replaced by a node of its value
@@ -90,7 +90,7 @@ module _ (F : Monoid) (ρ : ℕ → Bool) where
       let w = val F ρ (without q (without p l)) in
       rw (h, takeOut-without p q l)
       (val-append F ρ (without q (without p l)) (z ∷ [])
-      ∙ ap (F .op w) (unit-right F ρ (ρ z) ∙ e)
+      ∙ ap (F .op w) (unit-right F (ρ z) ∙ e)
       ∙ F .comm w (F .op (ρ p) (ρ q))
       ∙ F .assoc (ρ p) (ρ q) w
       ∙ sym (val-without p l d (and-left (has p l) (has q l) h)

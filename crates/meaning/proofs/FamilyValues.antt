@@ -21,7 +21,7 @@ use Rattle.model.proofs.Words.{word-parts, node-inv}
 use Rattle.model.proofs.Names.{sorted, wired-ins, wired-out}
 use Rattle.model.proofs.Forward.{evaluate-sorted}
 use Rattle.shape.proofs.Sort.{sorted-ranked}
-use Rattle.meaning.proofs.NaryValues.{Monoid, andF, xorF, val, val-and, val-xor}
+use Rattle.meaning.proofs.NaryValues.{Monoid, andF, xorF, val, val-and, val-xor, op-swap, unit-right}
 use Rattle.meaning.proofs.Valuations.{value-node}
 use Rattle.meaning.proofs.Simulation.{kept, Carries, same-run}
 
@@ -32,12 +32,6 @@ monoidOf And = andF
 monoidOf Xor = xorF
 
 module _ (F : Monoid) (ρ : ℕ → Bool) where
-  pub op-swap : (a b c : Bool) → F .op a (F .op b c) ≡ F .op b (F .op a c)
-  op-swap a b c = sym (F .assoc a b c) ∙ ap (λ x. F .op x c) (F .comm a b) ∙ F .assoc b a c
-
-  pub unit-right : (a : Bool) → F .op a (F .unit) ≡ a
-  unit-right a = F .comm a (F .unit) ∙ F .unitl a
-
   pub val-append : (a b : List ℕ) → val F ρ (a ++ b) ≡ F .op (val F ρ a) (val F ρ b)
   val-append [] b = sym (F .unitl (val F ρ b))
   val-append (x ∷ a) b = ap (F .op (ρ x)) (val-append a b) ∙ sym (F .assoc (ρ x) (val F ρ a) (val F ρ b))
@@ -50,7 +44,7 @@ module _ (F : Monoid) (ρ : ℕ → Bool) where
       let a = val F ρ (retain (λ y. not (t y)) l) in
       let c = val F ρ (retain t l) in
       by-bool (t x)
-      (λ e. rw e (op-swap a (ρ x) c ∙ ap (F .op (ρ x)) (val-retain t l)))
+      (λ e. rw e (op-swap F a (ρ x) c ∙ ap (F .op (ρ x)) (val-retain t l)))
       (λ e. rw e (F .assoc (ρ x) a c ∙ ap (F .op (ρ x)) (val-retain t l)))
 
 -- ---- its gates
@@ -98,7 +92,7 @@ pub value-of-pair : (f : Family) (i v : ℕ → Bool) (p : Pair)
     → gateValue i v (pairGate f p) ≡ monoidOf f .op (signalValue i v (p .fst)) (signalValue i v (p .snd))
 value-of-pair f i v p =
     let ρ = signalValue i v in
-    value-of-family f i v (pairGate f p) (pair-inside f p) ∙ ap (monoidOf f .op (ρ (p .fst))) (unit-right (monoidOf f) ρ (ρ (p .snd)))
+    value-of-family f i v (pairGate f p) (pair-inside f p) ∙ ap (monoidOf f .op (ρ (p .fst))) (unit-right (monoidOf f) (ρ (p .snd)))
 
 -- ---- networks that keep the numbers of their nodes: the translation is the identity
 

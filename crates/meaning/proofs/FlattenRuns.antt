@@ -22,10 +22,10 @@ use Rattle.model.proofs.Names.{sorted}
 use Rattle.model.proofs.Forward.{shows-comb, evaluate-sorted}
 use Rattle.shape.proofs.Cleanup.{cleanup-valid, cleanup-sorted}
 use Rattle.shape.proofs.Flatten.{inside-comb, Flat, is-merged, is-kept, flat, merged-size, merged-outs, merged-gate, merged-before, merged-sorted, merged-valid}
-use Rattle.meaning.proofs.NaryValues.{val}
+use Rattle.meaning.proofs.NaryValues.{val, unit-right}
 use Rattle.meaning.proofs.CleanupRuns.{cleanup-runs}
 use Rattle.meaning.proofs.DedupRuns.{canonical-runs}
-use Rattle.meaning.proofs.FamilyValues.{monoidOf, unit-right, val-append, value-of-family, wide-inside, numbers-run}
+use Rattle.meaning.proofs.FamilyValues.{monoidOf, val-append, value-of-family, wide-inside, numbers-run}
 
 -- ---- merging keeps the value
 
@@ -42,7 +42,7 @@ module _ (f : Family) (i v : ℕ → Bool) (G : ℕ → Gate) (limit : ℕ) wher
   opened-val s used h = go (ref s) refl
     where
       alone : val (monoidOf f) (signalValue i v) (s ∷ []) ≡ signalValue i v s
-      alone = unit-right (monoidOf f) (signalValue i v) (signalValue i v s)
+      alone = unit-right (monoidOf f) (signalValue i v s)
 
       go : (r : Ref) → ref s ≡ r → val (monoidOf f) (signalValue i v) (opened f G limit used s r) ≡ signalValue i v s
       go rzero e = alone

@@ -20,7 +20,8 @@ use Rattle.model.specs.Evaluate.{valueOf, nextState, signalValue, gateValue, al
 use Rattle.model.specs.Normal.{Norm, copied, made, made3, makeDff, on1, on2, on3, normalK, makeCanonical, normValue}
 use Rattle.model.proofs.Words.{flip-false}
 use Rattle.meaning.proofs.Shapes.{gateWith, by-shape}
-use Rattle.meaning.proofs.Values.{Names, In, Ok, ρ-zero, ρ-one, copy-ok, ok-is, and-ok, xor-ok, mux-ok, and3-ok, xor3-ok, maj-ok}
+use Rattle.model.proofs.Names.{Names, In}
+use Rattle.meaning.proofs.Values.{Ok, ρ-zero, ρ-one, copy-ok, ok-is, and-ok, xor-ok, mux-ok, and3-ok, xor3-ok, maj-ok}
 use Rattle.meaning.proofs.NaryValues.{andF, val, val-and, val-xor, andN-ok, xorN-ok, neg-val, neg-in}
 
 module _ (i v : ℕ → Bool) (P : ℕ → Type 0) where

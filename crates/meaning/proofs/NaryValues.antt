@@ -10,12 +10,14 @@ use Rattle.kinds.specs.Kinds.{kindOf}
 use Rattle.laws.specs.Bools.{xor}
 use Rattle.laws.proofs.Bools.{xor-assoc, xor-comm, and-assoc, and-comm, taut1, taut2, taut3, taut4}
 use Rattle.laws.proofs.Choices.{by-eq, by-test}
+use Rattle.laws.proofs.Lists.{map-all}
 use Rattle.model.specs.Signal.{isInverted, flip, neg, withoutInversion}
 use Rattle.model.specs.Evaluate.{valueOf, signalValue, gateValue, allOf, anyOf, oddOf}
 use Rattle.model.specs.Normal.{without, insert, sorted, uniq, opposed, andSome, andWide, andTidy, makeAndN, parity, cancel, xorSome, makeXorN}
 use Rattle.model.proofs.Words.{one-ref}
 use Rattle.model.proofs.Lists.{by-keep, sorted-all, without-all, uniq-all, cancel-all}
-use Rattle.meaning.proofs.Values.{Names, In, zero-names, value-flip, Ok, ρ-zero, ρ-one, ρ-neg, ρ-plain, names-flip, names-plain, copy-ok, bool-ok, ok-is, and-ok, xor-ok, and3-ok, xor3-ok}
+use Rattle.model.proofs.Names.{Names, In, zero-names}
+use Rattle.meaning.proofs.Values.{value-flip, Ok, ρ-zero, ρ-one, ρ-neg, ρ-plain, names-flip, names-plain, copy-ok, bool-ok, ok-is, and-ok, xor-ok, and3-ok, xor3-ok}
 
 -- ---- a commutative monoid on Bool: And or Xor
 
@@ -44,16 +46,19 @@ pub val-xor : (ρ : ℕ → Bool) (l : List ℕ) → oddOf (map ρ l) ≡ val xo
 val-xor ρ [] = refl
 val-xor ρ (s ∷ l) = ap (xor (ρ s)) (val-xor ρ l)
 
-module _ (F : Monoid) (ρ : ℕ → Bool) where
-  swap3 : (a b c : Bool) → F .op a (F .op b c) ≡ F .op b (F .op a c)
-  swap3 a b c = sym (F .assoc a b c) ∙ ap (λ x. F .op x c) (F .comm a b) ∙ F .assoc b a c
+pub op-swap : (F : Monoid) (a b c : Bool) → F .op a (F .op b c) ≡ F .op b (F .op a c)
+op-swap F a b c = sym (F .assoc a b c) ∙ ap (λ x. F .op x c) (F .comm a b) ∙ F .assoc b a c
 
+pub unit-right : (F : Monoid) (a : Bool) → F .op a (F .unit) ≡ a
+unit-right F a = F .comm a (F .unit) ∙ F .unitl a
+
+module _ (F : Monoid) (ρ : ℕ → Bool) where
   insert-val : (x : ℕ) (l : List ℕ) → val F ρ (insert x l) ≡ F .op (ρ x) (val F ρ l)
   unfolding insert
   insert-val x [] = refl
   insert-val x (y ∷ l) =
       by-test (λ m. val F ρ m ≡ F .op (ρ x) (F .op (ρ y) (val F ρ l))) (leb x y) (λ e. refl)
-      (λ e. ap (F .op (ρ y)) (insert-val x l) ∙ swap3 (ρ y) (ρ x) (val F ρ l))
+      (λ e. ap (F .op (ρ y)) (insert-val x l) ∙ op-swap F (ρ y) (ρ x) (val F ρ l))
 
   sorted-val : (l : List ℕ) → val F ρ (sorted l) ≡ val F ρ l
   unfolding sorted
@@ -137,8 +142,7 @@ module _ (i v : ℕ → Bool) (P : ℕ → Type 0) where
       ∙ taut4 (λ a b c d. xor (xor a b) (xor c d)) (λ a b c d. xor (xor a c) (xor b d)) tt (isInverted s) (signalValue i v (withoutInversion s)) (parity l) (val xorF (signalValue i v) (map withoutInversion l))
 
   plain-in : (l : List ℕ) → In P l → In P (map withoutInversion l)
-  plain-in [] h = tt
-  plain-in (s ∷ l) h = (names-plain P s (h .0), plain-in l (h .1))
+  plain-in l = map-all (Names P) withoutInversion l (names-plain P)
 
   xorSome-ok : (l : List ℕ) (z : Bool) → In P l → Ok i v P (xor z (val xorF (signalValue i v) l)) (xorSome l z)
   unfolding gateValue valueOf kindOf xorSome
@@ -173,5 +177,4 @@ module _ (i v : ℕ → Bool) (P : ℕ → Type 0) where
       ∙ ap (λ b. signalValue i v s || b) (neg-val l)
 
   pub neg-in : (l : List ℕ) → In P l → In P (map neg l)
-  neg-in [] h = tt
-  neg-in (s ∷ l) h = (names-flip P s true (h .0), neg-in l (h .1))
+  neg-in l = map-all (Names P) neg l (λ s. names-flip P s true)

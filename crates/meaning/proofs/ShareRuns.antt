@@ -3,17 +3,16 @@ use mathlib.Core.Path.{_≡_, _∙_}
 use Prim.Native.Nat.{ℕ, _≤_}
 use mathlib.Core.Bool.{Bool, true, false, _&&_}
 use mathlib.Core.List.{List, [], _∷_}
-use lib.Dec.{eqb}
-use borrow.Author.Tests.{eqb-false}
 use Rattle.kinds.specs.declared.Family.{Family}
 use Rattle.kinds.specs.declared.Family.the-variants.{And, Xor}
-use Rattle.laws.specs.Lists.{All, Fresh, Distinct}
+use Rattle.laws.specs.Lists.{All, Distinct}
 use Rattle.laws.proofs.Bools.{and-both, or-left, or-right}
 use Rattle.laws.proofs.Choices.{by-bool, clash}
 use Rattle.model.specs.Gate.{Gate, Net, Valid, isTopoSorted}
 use Rattle.model.specs.Network.{has, cleanup, topoSort}
 use Rattle.model.specs.Evaluate.{runFromZero}
 use Rattle.model.specs.Sharing.{anyRepeats, factorGates, factorNary, factorRefusal, flattenNary, flattenedInputs, grown, merged, passRefusal, repeats, shareLogic, takes}
+use Rattle.shape.proofs.Members.{fresh-of}
 use Rattle.shape.proofs.Sort.{sort-valid, sort-sorted}
 use Rattle.shape.proofs.Cleanup.{cleanup-valid, cleanup-sorted}
 use Rattle.shape.proofs.Flatten.{merged-sorted, merged-valid, flatten-valid, flatten-sorted}
@@ -25,10 +24,6 @@ use Rattle.meaning.proofs.FlattenRuns.{flatten-runs}
 use Rattle.meaning.proofs.FactorRuns.{pass-runs}
 
 -- ---- what 9 lets in
-
-fresh-of : (x : ℕ) (l : List ℕ) → has x l ≡ false → Fresh x l
-fresh-of x [] h = tt
-fresh-of x (y ∷ l) h = (eqb-false y x (or-left (eqb y x) (has x l) h), fresh-of x l (or-right (eqb y x) (has x l) h))
 
 distinct-of : (l : List ℕ) → repeats l ≡ false → Distinct l
 unfolding repeats

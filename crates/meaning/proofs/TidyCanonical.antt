@@ -3,9 +3,9 @@ use mathlib.Core.Path.{_≡_, sym, ap, subst, _∙_}
 use Prim.Native.Nat.{ℕ, _/_, _≤_, _<_}
 use native.Mathlib.Nat.{le-refl}
 use native.Mathlib.Omega.{arith}
-use mathlib.Core.Bool.{Bool, true, false, not, _&&_}
+use mathlib.Core.Bool.{Bool, true, false, _&&_}
 use mathlib.Core.List.{List, [], map, _∷_}
-use lib.ListN.{length, getD}
+use lib.ListN.{length}
 use lib.Dec.{ltb}
 use borrow.Author.Tests.{eqb-true, ltb-true}
 use Rattle.kinds.specs.Kinds.{kindOf, inFamily}
@@ -15,11 +15,11 @@ use Rattle.kinds.specs.declared.Kind.the-variants.{And2, Xor2, And3, Xor3, Maj,
 use Rattle.kinds.specs.declared.Family.{Family}
 use Rattle.laws.specs.Lists.{All, Distinct}
 use Rattle.laws.proofs.Bools.{true-false, and-left, and-right}
-use Rattle.laws.proofs.Lists.{all-at, all-of, all-append, all-map}
+use Rattle.laws.proofs.Lists.{all-at, all-of, all-append, all-map, map-all}
 use Rattle.laws.proofs.Choices.{by-bool}
-use Rattle.model.specs.Signal.{isConstant, remapOrder}
+use Rattle.model.specs.Signal.{remapOrder}
 use Rattle.model.specs.Gate.{Gate, Net, Valid, isDff, remapGate, noGate, gateAt, size, fitsKind, shaped, allShaped, isTopoSorted}
-use Rattle.model.specs.Normal.{made, gateOf, makeCanonical, rises, sortedN, noInv, proper, canonicalK, isCanonical}
+use Rattle.model.specs.Normal.{made, gateOf, makeCanonical, noInv, proper, canonicalK, isCanonical}
 use Rattle.model.specs.Network.{dedupNode, dedupCombs, remapDff, dedupWith, canonical}
 use Rattle.model.specs.Sharing.{inside}
 use Rattle.shape.proofs.Named.{shaped-at}
@@ -28,6 +28,7 @@ use Rattle.shape.proofs.DedupPlace.{Grown, same, more, grown}
 use Rattle.shape.proofs.DedupSweep.{shaped-remap, isD, askedGate, asked, upTo, upTo-start, sweep}
 use Rattle.meaning.proofs.Shapes.{gateWith, by-shape}
 use Rattle.meaning.proofs.Canonical.{Canon, canon-of-canonical}
+use Rattle.meaning.proofs.Again.{Rise, proper-rise}
 use Rattle.meaning.proofs.Tidy.{Tidy}
 
 -- what a gate keeps under any renaming, it keeps where it is looked up
@@ -68,11 +69,9 @@ module _ (N : Net) (ok : allShaped (N .nodes) ≡ true) (R P : Gate → Type 0)
 
   turned : (τ : ℕ → ℕ) (l : List Gate) → All Made l → All P (map (remapDff makeCanonical N τ) l)
   unfolding Made
-  turned τ [] h = tt
-  turned τ (g ∷ l) h = (
-    by-bool (isDff g) (λ d. rw d (subst P (sym (ap (remapGate τ) (dff-is g (h .0 .0) d))) (cell (map (remapOrder τ) (g .ins))))) (λ d. rw d (h .0 .1)),
-    turned τ l (h .1),
-  )
+  turned τ l =
+      map-all P (remapDff makeCanonical N τ) l
+      (λ g h. by-bool (isDff g) (λ d. rw d (subst P (sym (ap (remapGate τ) (dff-is g (h .0) d))) (cell (map (remapOrder τ) (g .ins))))) (λ d. rw d (h .1)))
 
   pub canonical-all : All P (canonical N .nodes)
   unfolding dedupWith
@@ -81,25 +80,12 @@ module _ (N : Net) (ok : allShaped (N .nodes) ≡ true) (R P : Gate → Type 0)
 -- ---- gates of a family
 
 -- rising indices do not repeat
-rises-all : (x : ℕ) (l : List ℕ) → sortedN (x ∷ l) ≡ true → All (λ y. x / 2 < y / 2) l
-unfolding sortedN rises
-rises-all x [] h = tt
-rises-all x (y ∷ l) h =
-    let k : x / 2 < y / 2 = ltb-true (x / 2) (y / 2) (and-left (rises x y) (sortedN (y ∷ l)) h) in
-    (k, all-map l (λ z q. omega arith) (rises-all y l (and-right (rises x y) (sortedN (y ∷ l)) h)))
-
-sorted-tail : (x : ℕ) (l : List ℕ) → sortedN (x ∷ l) ≡ true → sortedN l ≡ true
-unfolding sortedN
-sorted-tail x [] h = h
-sorted-tail x (y ∷ l) h = and-right (rises x y) (sortedN (y ∷ l)) h
-
-sorted-distinct : (l : List ℕ) → sortedN l ≡ true → Distinct l
-sorted-distinct [] h = tt
-sorted-distinct (x ∷ l) h = (all-map l (λ y q e. let k : y / 2 ≡ x / 2 = ap (λ i. i / 2) e in omega arith) (rises-all x l h), sorted-distinct l (sorted-tail x l h))
+rise-distinct : (l : List ℕ) → Rise l → Distinct l
+rise-distinct [] r = tt
+rise-distinct (x ∷ l) r = (all-map l (λ y q e. let k : y / 2 ≡ x / 2 = ap (λ i. i / 2) e in omega arith) (r .0), rise-distinct l (r .1))
 
 proper-distinct : (l : List ℕ) → proper l ≡ true → Distinct l
-unfolding proper
-proper-distinct l h = sorted-distinct l (and-left (sortedN l) (not (isConstant (getD l 0 0))) h)
+proper-distinct l h = rise-distinct l (proper-rise l h)
 
 -- two or more inputs, none twice
 pub record Several (g : Gate) : Type 0 where

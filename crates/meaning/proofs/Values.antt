@@ -1,30 +1,17 @@
 -- The value law of each make_ function: a normalization has its gate's value, is combinational, and names only what the gate names.
 use mathlib.Core.Path.{_≡_, refl, sym, ap, _∙_}
 use Prim.Native.Nat.{ℕ}
-use native.Mathlib.Omega.{arith}
 use mathlib.Core.Bool.{Bool, true, false, not, cond, _&&_, _||_}
-use mathlib.Core.List.{List}
 use Rattle.kinds.specs.Kinds.{kindOf, isFlipFlop}
 use Rattle.laws.specs.Bools.{xor}
-use Rattle.model.specs.Signal.{isInverted, flip, neg, withoutInversion, fromBool, Ref, rzero, rnode, ref}
+use Rattle.model.specs.Signal.{isInverted, flip, neg, withoutInversion, fromBool, rzero, ref}
 use Rattle.model.specs.Evaluate.{valueOf, refValue, signalValue, gateValue}
 use Rattle.model.specs.Normal.{Norm, copied, made, made2, made3, least, most, low3, mid3, high3, andSorted, makeAnd, xorSorted, makeXor, and3Sorted, makeAnd3, xor3Sorted, makeXor3, muxPlain, muxSelect, makeMux, majPlain, majSorted, makeMaj, normValue}
-use Rattle.laws.proofs.Bools.{xor-assoc, xor-comm}
 use Rattle.model.proofs.Words.{flip-ref, flip-inv, zero-ref, zero-inv, one-is, plain-ref, plain-inv}
+use Rattle.model.proofs.Names.{Names, In, zero-names}
 use Rattle.model.proofs.Order.{sort2-ok, sort3-ok}
-use Rattle.laws.specs.Lists.{All}
 use Rattle.laws.proofs.Choices.{by-eq, by-or, by-or3, by-test}
-use Rattle.laws.proofs.Bools.{taut2, taut3, taut4, taut5, taut7}
-
--- every node that signal s names is in K
-abbrev pub Names : (ℕ → Type 0) → ℕ → Type 0
-Names K s = (m : ℕ) → ref s ≡ rnode m → K m
-
-abbrev pub In : (ℕ → Type 0) → List ℕ → Type 0
-In K l = All (Names K) l
-
-pub zero-names : {r : Ref} {m : ℕ} {X : Type 0} → r ≡ rzero → r ≡ rnode m → X
-zero-names p q = let z : _≡_ {A = ℕ} 0 1 = cc in absurd (omega arith)
+use Rattle.laws.proofs.Bools.{xor-false, xor-assoc, xor-comm, taut2, taut3, taut4, taut5, taut7}
 
 pub value-flip : (i v : ℕ → Bool) (s : ℕ) (b : Bool) → signalValue i v (flip s b) ≡ xor b (signalValue i v s)
 unfolding signalValue
@@ -57,11 +44,7 @@ module _ (i v : ℕ → Bool) where
   ρ-neg s = value-flip i v s true
 
   pub ρ-bool : (b : Bool) → ρ (fromBool b) ≡ b
-  ρ-bool b = value-flip i v 0 b ∙ ap (xor b) ρ-zero ∙ go b
-    where
-      go : (b : Bool) → xor b false ≡ b
-      go true = refl
-      go false = refl
+  ρ-bool b = value-flip i v 0 b ∙ ap (xor b) ρ-zero ∙ xor-false b
 
   pub ρ-plain : (s : ℕ) → ρ s ≡ xor (isInverted s) (ρ (withoutInversion s))
   unfolding signalValue

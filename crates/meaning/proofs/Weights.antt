@@ -1,6 +1,5 @@
 -- What gates cost in all: a pass builds no more pairs than its gates have inputs, less one each; so no pass raises the cost.
 use mathlib.Core.Path.{_≡_, refl, sym, ap₂, _∙_}
-use mathlib.Core.Logic.{inl, inr}
 use Prim.Native.Nat.{ℕ, zero, suc, _+_, zero-le, _≤_, _<_}
 use native.Mathlib.Nat.{le-refl}
 use native.Mathlib.Omega.{arith}
@@ -20,12 +19,12 @@ use Rattle.model.specs.Signal.{fromVar}
 use Rattle.model.specs.Gate.{Gate, Net, size, Valid, gateAt, isDff, isTopoSorted, remapGate, shaped}
 use Rattle.model.specs.Normal.{made, gateOf, makeCanonical}
 use Rattle.model.specs.Network.{sumTo, canonical, dedupCombs, dedupWith, remap, remapDff, sorts, topoOrder, topoSort, translation}
-use Rattle.model.specs.Sharing.{Pair, State, exclusiveSignals, factoring, giveBack, joinRound, once, replaceIn, replacePair, retain, roundLeft, roundPairs, sharedSignals, taken, total, factorGates, grown, inside, pairGate, passRefusal, replaced, takes}
+use Rattle.model.specs.Sharing.{Pair, State, exclusiveSignals, factoring, giveBack, joinRound, once, replacePair, retain, roundLeft, roundPairs, sharedSignals, taken, total, factorGates, grown, inside, pairGate, passRefusal, replaced, takes}
 use Rattle.shape.proofs.Sums.{sumOver, sum-add, sum-distinct, sum-same}
 use Rattle.shape.proofs.Sort.{sort-order}
 use Rattle.shape.proofs.DedupSweep as sums
 use Rattle.shape.proofs.DedupSweep.{askedGate, asked, due-total, weigh}
-use Rattle.shape.proofs.FactoringFuel.{Two, TwoIn, in-le}
+use Rattle.shape.proofs.FactoringFuel.{TwoIn, shrinks}
 use Rattle.shape.proofs.FactoringSteps.{allPairs-keeps, consume-keeps, joins-keep}
 use Rattle.shape.proofs.FactoringEnds.{One, factoring-parts, given, paired, split-length}
 use Rattle.shape.proofs.FactoringGrown.{ended, ended-one, length-ended, grown-nodes}
@@ -39,25 +38,9 @@ abbrev Within : ℕ → State → Type 0
 Within n s = total (s .lists) + length (s .built) ≤ n
 
 -- a replacement takes two signals and puts one
-module _ (p q z : ℕ) where
-  in-lt : (l : List ℕ) → Two p q l → length (replaceIn p q z l) < length l
-  unfolding replaceIn
-  in-lt l t = rw (t .both, length-append) (omega (arith, t .fewer))
-
-  all-le : (gs : List (List ℕ)) → total (map (replaceIn p q z) gs) ≤ total gs
-  unfolding total
-  all-le [] = le-refl _
-  all-le (l ∷ gs) = omega (arith, in-le p q z l, all-le gs)
-
-  all-lt : (gs : List (List ℕ)) → TwoIn p q gs → total (map (replaceIn p q z) gs) < total gs
-  unfolding total
-  all-lt [] t = absurd t
-  all-lt (l ∷ gs) (inl t) = omega (arith, in-lt l t, all-le gs)
-  all-lt (l ∷ gs) (inr t) = omega (arith, in-le p q z l, all-lt gs t)
-
 within-replaced : (n : ℕ) (s : State) (a b : ℕ) → TwoIn a b (s .lists) → Within n s → Within n (replacePair s a b)
 unfolding replacePair
-within-replaced n s a b t h = rw length-append (omega (arith, all-lt a b (fromVar (s .next)) (s .lists) t))
+within-replaced n s a b t h = rw length-append (omega (arith, shrinks a b (fromVar (s .next)) (s .lists) t))
 
 -- a round takes as many signals as it builds pairs
 round-total : (b : ℕ) (l : List ℕ) → length (roundLeft b l) + length (roundPairs l) ≡ length l

@@ -12,6 +12,7 @@ use borrow.Author.Tests.{ltb-true, lt-ltb}
 use Rattle.laws.specs.Bools.{xor}
 use Rattle.laws.specs.Lists.{All}
 use Rattle.laws.proofs.Bools.{and-left, and-right}
+use Rattle.laws.proofs.Lists.{map-all}
 use Rattle.model.specs.Signal.{Ref, rzero, rnode, rinput, isInverted, ref, remapOrder, remapRef}
 use Rattle.model.specs.Gate.{Gate, Net, isDff, noGate, gateAt, size, namedRef, named, allNamed, gatesNamed, wired, belowRef, allBelow, sortedFrom, isTopoSorted}
 use Rattle.model.specs.Evaluate.{refValue, signalValue}
@@ -46,8 +47,7 @@ names-remap τ P Q s h p = go (ref s) refl
     go (rinput k) e m f = input-names e f
 
 pub in-remap : (τ : ℕ → ℕ) (P Q : ℕ → Type 0) (l : List ℕ) → ((m : ℕ) → P m → Names Q (τ m)) → In P l → In Q (map (remapOrder τ) l)
-in-remap τ P Q [] h p = tt
-in-remap τ P Q (s ∷ l) h p = (names-remap τ P Q s h (p .0), in-remap τ P Q l h (p .1))
+in-remap τ P Q l h = map-all (Names Q) (remapOrder τ) l (λ s. names-remap τ P Q s h)
 
 -- ---- a value depends on what the signal names
 

@@ -1,25 +1,25 @@
 -- dedup of a valid, sorted network: the result is valid and sorted, no larger, and every old node's mapped signal names something there.
 use mathlib.Core.Path.{_≡_, refl, sym, ap, ap₂, _∙_, subst}
 use mathlib.Core.Logic.{_≢_, _⊎_, inl, inr}
-use Prim.Native.Nat.{ℕ, zero, suc, _+_, _≤_, _<_}
+use Prim.Native.Nat.{ℕ, suc, _+_, _≤_, _<_}
 use native.Mathlib.Nat.{le-refl, not-suc-le-zero}
 use native.Mathlib.Omega.{arith}
 use native.Mathlib.Decide.{ℕ-discrete, decLt}
-use mathlib.Core.Bool.{Bool, true, false, not, cond}
-use mathlib.Core.List.{List, [], _∷_, _++_, map}
+use mathlib.Core.Bool.{Bool, true, false, not}
+use mathlib.Core.List.{List, [], _∷_, map}
 use lib.ListN.{length, getD, length-map}
 use Rattle.laws.specs.Bools.{bit}
 use Rattle.laws.specs.Lists.{All}
 use Rattle.laws.proofs.Lists.{all-map, getD-map-in}
 use Rattle.laws.proofs.Choices.{by-bool, clash}
 use Rattle.model.specs.Signal.{Ref, rzero, rnode, rinput, ref, isInverted, flip, fromVar, remapOrder, remapRef}
-use Rattle.model.specs.Gate.{Gate, Net, isDff, remapGate, noGate, gateAt, size, shaped, allShaped, fanin, combs, wired, isTopoSorted, Valid}
+use Rattle.model.specs.Gate.{Gate, Net, isDff, remapGate, noGate, gateAt, size, shaped, fanin, combs, isTopoSorted, Valid}
 use Rattle.model.specs.Normal.{Norm, copied, made}
-use Rattle.model.specs.Network.{Work, dedupNode, dedupDffs, dedupCombs, remapDff, dedupWith, dedupMap}
-use Rattle.shape.proofs.Named.{Here, here-zero, here-var, here-flip, here-more, here-node, here-remap, all-remap, shaped-at, shaped-all, wired-ins, wired-outs, wired-all, sorted-ins, sorted-all}
-use Rattle.shape.proofs.DedupNormal.{Closed, Form, Fit, NormLaw}
-use Rattle.shape.proofs.DedupPlace.{At, Ext, Result, result-ext, Put, put-is}
-use Rattle.shape.proofs.DedupSweep.{total, fanin-total, length-total, shaped-remap, isD, askedGate, asked, upTo, upTo-start, sweep, due, due-total, due-most, upTo-turn, asked-comb, asked-cell, count, inputs, gates, combOf, combs-total}
+use Rattle.model.specs.Network.{Work, dedupNode, dedupCombs, remapDff, dedupWith, dedupMap}
+use Rattle.shape.proofs.Named.{Here, here-zero, here-var, here-flip, here-more, here-node, all-remap, shaped-at, shaped-all, wired-ins, wired-outs, wired-all, sorted-ins, sorted-all}
+use Rattle.shape.proofs.DedupNormal.{Closed, Form, NormLaw}
+use Rattle.shape.proofs.DedupPlace.{Result, result-ext, Put, put-is}
+use Rattle.shape.proofs.DedupSweep.{total, fanin-total, length-total, shaped-remap, isD, asked, upTo, upTo-start, sweep, due-total, due-most, upTo-turn, asked-comb, asked-cell, count, inputs, gates, combOf, combs-total}
 
 here-closed : (i n : ℕ) → Closed (Here i n)
 here-closed i n = record { has-zero = here-zero i n; has-flip = λ s b h. here-flip i n s b h }

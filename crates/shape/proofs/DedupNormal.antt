@@ -1,9 +1,9 @@
 -- The form of a normalization: which signals it is made of, how many, and that a gate of it is shaped. Says nothing of values.
 use mathlib.Core.Path.{_≡_, refl, sym, ap, _∙_, subst}
 use mathlib.Core.Logic.{_⊎_, inl, inr}
-use Prim.Native.Nat.{ℕ, zero, suc, _+_, _/_, _^_, _≤_, _<_}
+use Prim.Native.Nat.{ℕ, suc, _/_, _≤_, _<_}
 use native.Mathlib.Omega.{arith}
-use mathlib.Core.Bool.{Bool, true, false, not, cond, _&&_}
+use mathlib.Core.Bool.{Bool, true, false, not}
 use mathlib.Core.List.{List, [], _∷_, map}
 use lib.ListN.{length, length-map}
 use lib.Dec.{eqb, leb, ltb}
@@ -16,9 +16,10 @@ use Rattle.laws.specs.Bools.{xor}
 use Rattle.laws.specs.Lists.{All}
 use Rattle.laws.proofs.Bools.{true-false, and-left, and-right}
 use Rattle.laws.proofs.Choices.{by-bool, by-eq, by-or2, by-or3, by-test}
+use Rattle.laws.proofs.Lists.{map-all}
 use Rattle.model.specs.Signal.{isInverted, wordOf, flip, neg, withoutInversion, fromBool}
-use Rattle.model.specs.Gate.{Gate, isDff, isLut, fitsKind, fitsCode, fitsTable, shaped}
-use Rattle.model.specs.Normal.{Norm, copied, made, gateOf, made2, made3, least, most, low3, mid3, high3, andSorted, makeAnd, xorSorted, makeXor, and3Sorted, makeAnd3, xor3Sorted, makeXor3, muxPlain, muxSelect, makeMux, majPlain, majSorted, makeMaj, makeDff, keep, without, insert, sorted, uniq, opposed, andSome, andWide, andTidy, makeAndN, parity, cancel, xorSome, makeXorN, on1, on2, on3, normalK, makeCanonical}
+use Rattle.model.specs.Gate.{Gate, isDff, fitsCode, fitsTable, shaped}
+use Rattle.model.specs.Normal.{Norm, copied, made, gateOf, made2, made3, least, most, low3, mid3, high3, andSorted, makeAnd, xorSorted, makeXor, and3Sorted, makeAnd3, xor3Sorted, makeXor3, muxPlain, muxSelect, makeMux, majPlain, majSorted, makeMaj, makeDff, keep, without, insert, sorted, uniq, opposed, andSome, andWide, andTidy, makeAndN, cancel, xorSome, makeXorN, on1, on2, on3, normalK, makeCanonical}
 use Rattle.model.specs.Network.{asIs}
 use Rattle.model.proofs.Words.{flip-false, one-is}
 use Rattle.model.proofs.Lists.{sorted-all, without-all, uniq-all, cancel-all}
@@ -112,12 +113,10 @@ module _ (S : ℕ → Type 0) (k : Closed S) where
   one-in = rw (← one-is) (k .has-flip 0 true (k .has-zero))
 
   neg-all : (l : List ℕ) → All S l → All S (map neg l)
-  neg-all [] h = tt
-  neg-all (s ∷ l) h = (k .has-flip s true (h .0), neg-all l (h .1))
+  neg-all l = map-all S neg l (λ s. k .has-flip s true)
 
   plain-all : (l : List ℕ) → All S l → All S (map withoutInversion l)
-  plain-all [] h = tt
-  plain-all (s ∷ l) h = (plain-in s (h .0), plain-all l (h .1))
+  plain-all l = map-all S withoutInversion l plain-in
 
   module _ (n : ℕ) where
     copy-form : (s : ℕ) → S s → Form S n (copied s)

@@ -17,7 +17,7 @@ use Rattle.model.specs.Normal.{Norm, copied, made}
 use Rattle.model.specs.Network.{sumTo, Work, dedupNode, dedupDffs, dedupCombs}
 use Rattle.shape.proofs.Named.{shaped-at}
 use Rattle.shape.proofs.DedupNormal.{Closed, Form, NormLaw, made-few, made-dff}
-use Rattle.shape.proofs.DedupPlace.{Ext, ext-refl, ext-trans, Put, put-is, Grown, same, more, grown}
+use Rattle.shape.proofs.DedupPlace.{Ext, ext-refl, ext-trans, put-is, Grown, same, more, grown}
 
 -- ---- weights of lists of gates
 

@@ -78,7 +78,7 @@ module _ (p q z : ℕ) where
   all-le [] = le-refl _
   all-le (l ∷ gs) = omega (arith, in-le l, all-le gs)
 
-  shrinks : (gs : List (List ℕ)) → TwoIn p q gs → total (map (replaceIn p q z) gs) < total gs
+  pub shrinks : (gs : List (List ℕ)) → TwoIn p q gs → total (map (replaceIn p q z) gs) < total gs
   unfolding total
   shrinks [] t = absurd t
   shrinks (l ∷ gs) (inl t) = omega (arith, in-lt l t, all-le gs)

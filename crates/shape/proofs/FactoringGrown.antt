@@ -2,7 +2,7 @@
 use Prim.Native.Nat.{suc, zero-le, ℕ, _*_, _+_, _<_, _≤_}
 use mathlib.Core.Path.{ap, refl, subst, sym, _≡_}
 use mathlib.Core.Logic.{inl, inr}
-use mathlib.Core.Bool.{true, _&&_}
+use mathlib.Core.Bool.{true}
 use mathlib.Core.List.{List, [], map, _++_, _∷_}
 use native.Mathlib.Omega.{arith}
 use lib.ListN.{length, length-append}
@@ -10,16 +10,16 @@ use lib.Dec.{ltb}
 use borrow.Author.Tests.{le-ltb, lt-ltb, ltb-false, ltb-true}
 use Rattle.kinds.specs.Kinds.{kindOf}
 use Rattle.laws.specs.Lists.{All}
-use Rattle.model.specs.Gate.{Gate, Net, Valid, allNamed, allShaped, fanin, fitsCode, fitsTable, gatesNamed, shaped, size, wired}
+use Rattle.model.specs.Gate.{Gate, Net, Valid, allShaped, fanin, fitsCode, fitsTable, noGate, shaped, size}
 use Rattle.model.specs.Normal.{gateOf}
 use Rattle.model.specs.Sharing.{Pair, State, factoring, grown, inside, pairGate, pairPlaces, passRefusal, replaced, taken, takes}
 use Rattle.shape.specs.Room.{bufInputs, roomOf}
 use Rattle.laws.proofs.Bools.{and-both, and-left, and-right}
 use Rattle.laws.proofs.Choices.{by-bool}
-use Rattle.laws.proofs.Lists.{all-append, all-map, length-map}
+use Rattle.laws.proofs.Lists.{all-append, all-at, all-map, all-of, length-map}
 use Rattle.shape.proofs.FactoringEnds.{One, Some, lists-factoring, one-left}
 use Rattle.shape.proofs.FactoringSound.{Known, Rising, Sound, factoring-sound}
-use Rattle.shape.proofs.Named.{Here, all-here, here-all, here-more, here-var}
+use Rattle.shape.proofs.Named.{Here, here-more, here-var, wired-ins, wired-outs, wired-all}
 use Rattle.kinds.specs.declared.Family.the-variants.{And, Xor}
 use Rattle.kinds.specs.declared.Kind.the-variants.{Buf}
 use Rattle.kinds.specs.declared.Family.{Family}
@@ -36,10 +36,10 @@ unfolding taken
 taken-some f [] = tt
 taken-some f (g ∷ gs) = by-bool (takes f g) (λ e. rw e (omega (arith, ltb-true 1 (length (g .ins)) (and-right (inside f g) (ltb 1 (length (g .ins))) e)), taken-some f gs)) (λ e. rw e (taken-some f gs))
 
-taken-all : (P : ℕ → Type 0) (f : Family) (gs : List Gate) → All (λ g. All P (g .ins)) gs → All (All P) (taken f gs)
+pub taken-all : (P : List ℕ → Type 0) (f : Family) (gs : List Gate) → All (λ (g : Gate). takes f g ≡ true → P (g .ins)) gs → All P (taken f gs)
 unfolding taken
 taken-all P f [] h = tt
-taken-all P f (g ∷ gs) h = by-bool (takes f g) (λ e. rw e (h .0, taken-all P f gs (h .1))) (λ e. rw e (taken-all P f gs (h .1)))
+taken-all P f (g ∷ gs) h = by-bool (takes f g) (λ e. rw e (h .0 e, taken-all P f gs (h .1))) (λ e. rw e (taken-all P f gs (h .1)))
 
 -- ---- its size
 
@@ -169,16 +169,6 @@ shaped-pairs f (x ∷ ps) = and-both (shaped (pairGate f x)) _ (shaped-pair f x)
 abbrev Wired : ℕ → ℕ → Gate → Type 0
 Wired i n g = All (Here i n) (g .ins)
 
-gates-here : (i n : ℕ) (gs : List Gate) → gatesNamed i n gs ≡ true → All (Wired i n) gs
-unfolding gatesNamed
-gates-here i n [] h = tt
-gates-here i n (g ∷ gs) h = (here-all i n (g .ins) (and-left (allNamed i n (g .ins)) (gatesNamed i n gs) h), gates-here i n gs (and-right (allNamed i n (g .ins)) (gatesNamed i n gs) h))
-
-here-gates : (i n : ℕ) (gs : List Gate) → All (Wired i n) gs → gatesNamed i n gs ≡ true
-unfolding gatesNamed
-here-gates i n [] h = refl
-here-gates i n (g ∷ gs) h = and-both (allNamed i n (g .ins)) _ (all-here i n (g .ins) (h .0)) (here-gates i n gs (h .1))
-
 wired-replaced : (i n : ℕ) (f : Family) (gs : List Gate) (ls : List (List ℕ)) → All (Wired i n) gs → All (All (Here i n)) ls → All (Wired i n) (replaced f gs ls)
 unfolding replaced
 wired-replaced i n f [] ls h k = tt
@@ -200,15 +190,14 @@ module _ (i n₀ n : ℕ) (few : n ≤ 512) (more : n₀ ≤ n) where
 -- ---- THE GROWN NETWORK IS VALID, where 12 lets it in
 
 module _ (f : Family) (N : Net) (ok : Valid N) (fits : length (ended f N .built) ≤ roomOf f (N .nodes)) where
-  wires : gatesNamed (N .inputs) (size N) (N .nodes) && allNamed (N .inputs) (size N) (N .outs) ≡ true
-  unfolding wired
-  wires = ok .signals
+  old-wired : All (Wired (N .inputs) (size N)) (N .nodes)
+  old-wired = all-of (Wired (N .inputs) (size N)) (N .nodes) noGate (wired-ins N (ok .signals))
 
   pub grown-sound : Sound (Here (N .inputs) (size N)) (size N) (ended f N)
   unfolding ended
   grown-sound =
       factoring-sound (Here (N .inputs) (size N)) (size N) (taken f (N .nodes))
-      (taken-all (Here (N .inputs) (size N)) f (N .nodes) (gates-here (N .inputs) (size N) (N .nodes) (and-left _ _ wires)))
+      (taken-all (All (Here (N .inputs) (size N))) f (N .nodes) (all-map (N .nodes) (λ g w t. w) old-wired))
 
   -- what 12 lets in
   few : (size (grown f N) ≤ 512) × (fanin (grown f N .nodes) ≤ 2048)
@@ -218,7 +207,7 @@ module _ (f : Family) (N : Net) (ok : Valid N) (fits : length (ended f N .built)
   unfolding grown
   grown-outs =
       let q = size-grown f N in
-      all-map (N .outs) (λ x. here-more (N .inputs) (size N) (size (grown f N)) x (omega arith)) (here-all (N .inputs) (size N) (N .outs) (and-right (gatesNamed (N .inputs) (size N) (N .nodes)) _ wires))
+      all-map (N .outs) (λ x. here-more (N .inputs) (size N) (size (grown f N)) x (omega arith)) (wired-outs N (ok .signals))
 
   grown-wired : All (Wired (N .inputs) (size (grown f N))) (grown f N .nodes)
   grown-wired =
@@ -232,7 +221,7 @@ module _ (f : Family) (N : Net) (ok : Valid N) (fits : length (ended f N .built)
       subst (λ (gs : List Gate). All (Wired (N .inputs) (size (grown f N))) gs) (sym (grown-nodes f N))
       (all-append (Wired i n) (replaced f (N .nodes) (ended f N .lists)) (map (pairGate f) (ended f N .built))
       (wired-replaced i n f (N .nodes) (ended f N .lists)
-      (all-map (N .nodes) (λ g. all-map (g .ins) (λ x. here-more i n₀ n x more)) (gates-here i n₀ (N .nodes) (and-left _ _ wires)))
+      (all-map (N .nodes) (λ g. all-map (g .ins) (λ x. here-more i n₀ n x more)) old-wired)
       (all-map (ended f N .lists) (λ l. all-map l (λ x. known-here i n₀ n (few .0) more (ended f N .next) x (omega arith))) (grown-sound .lists-known)))
       (pairs-here i n₀ n (few .0) more f n₀ (ended f N .built) (omega arith) r))
 
@@ -245,7 +234,6 @@ module _ (f : Family) (N : Net) (ok : Valid N) (fits : length (ended f N .built)
   grown-outputs = refl
 
   pub valid-grown : Valid (grown f N)
-  unfolding wired
   valid-grown = record {
     inputs-few = rw grown-inputs (ok .inputs-few);
     nodes-few = few .0;
@@ -257,7 +245,7 @@ module _ (f : Family) (N : Net) (ok : Valid N) (fits : length (ended f N .built)
         (shaped-pairs f (ended f N .built)));
     ins-few = few .1;
     signals =
-        rw grown-inputs
-        (and-both _ _ (here-gates (N .inputs) (size (grown f N)) (grown f N .nodes) grown-wired)
-        (all-here (N .inputs) (size (grown f N)) (grown f N .outs) grown-outs));
+        wired-all (grown f N)
+        (rw grown-inputs (all-at (Wired (N .inputs) (size (grown f N))) (grown f N .nodes) noGate grown-wired))
+        (rw grown-inputs grown-outs);
   }

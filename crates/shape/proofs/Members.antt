@@ -10,9 +10,10 @@ use mathlib.Core.List.{List, [], _∷_, _++_}
 use lib.ListN.{length, getD, length-append, List·getD-append}
 use lib.Seq.{getD-append-add}
 use lib.Dec.{eqb}
-use borrow.Author.Tests.{eq-eqb, ne-eqb, eqb-true}
+use borrow.Author.Tests.{eq-eqb, ne-eqb, eqb-true, eqb-false}
 use Rattle.laws.specs.Bools.{bit}
-use Rattle.laws.specs.Lists.{All, Distinct}
+use Rattle.laws.specs.Lists.{All, Fresh, Distinct}
+use Rattle.laws.proofs.Bools.{or-left, or-right}
 use Rattle.laws.proofs.Lists.{all-map, all-at, all-append, distinct-append}
 use Rattle.laws.proofs.Choices.{by-bool, clash}
 use Rattle.model.specs.Network.{has, occ, sumTo, pushIf, rising}
@@ -54,6 +55,10 @@ all-has P (y ∷ l) x a h = by-bool (eqb y x) (λ e. rw (eqb-true y x e) at (a .
 pub has-all : (P : ℕ → Type 0) (l : List ℕ) → ((x : ℕ) → has x l ≡ true → P x) → All P l
 has-all P [] h = tt
 has-all P (y ∷ l) h = (h y (has-head y y l refl), has-all P l (λ x m. h x (has-cons x y l m)))
+
+pub fresh-of : (x : ℕ) (l : List ℕ) → has x l ≡ false → Fresh x l
+fresh-of x [] h = tt
+fresh-of x (y ∷ l) h = (eqb-false y x (or-left (eqb y x) (has x l) h), fresh-of x l (or-right (eqb y x) (has x l) h))
 
 -- ---- how often
 

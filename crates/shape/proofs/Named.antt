@@ -3,7 +3,7 @@ use mathlib.Core.Path.{_≡_, refl, sym, ap, _∙_}
 use Prim.Native.Nat.{ℕ, zero, suc, _+_, _≤_, _<_}
 use native.Mathlib.Nat.{not-suc-le-zero, le-of-suc-le-suc}
 use native.Mathlib.Omega.{arith}
-use mathlib.Core.Bool.{Bool, true, false, _&&_, _||_}
+use mathlib.Core.Bool.{Bool, true, false, _||_}
 use mathlib.Core.List.{List, [], _∷_, map}
 use lib.ListN.{length, getD}
 use lib.Dec.{ltb}
@@ -12,6 +12,7 @@ use Rattle.laws.specs.Bools.{xor, bit}
 use Rattle.laws.specs.Lists.{All}
 use Rattle.laws.proofs.Bools.{and-left, and-right, and-both}
 use Rattle.laws.proofs.Choices.{by-bool}
+use Rattle.laws.proofs.Lists.{map-all}
 use Rattle.model.specs.Signal.{Ref, rzero, rnode, rinput, ref, flip, wordOf, isInverted, fromVar, remapOrder, remapRef}
 use Rattle.model.specs.Gate.{Gate, Net, isDff, noGate, gateAt, size, shaped, allShaped, namedRef, named, allNamed, gatesNamed, wired, belowRef, allBelow, sortedFrom, isTopoSorted}
 use Rattle.model.proofs.Words.{flip-ref, zero-ref, node-ref}
@@ -101,8 +102,7 @@ all-here i n [] h = refl
 all-here i n (s ∷ l) h = and-both (named i n s) _ (h .0) (all-here i n l (h .1))
 
 pub all-remap : (τ : ℕ → ℕ) (i m n : ℕ) (l : List ℕ) → ((v : ℕ) → v < m → Here i n (τ v)) → All (Here i m) l → All (Here i n) (map (remapOrder τ) l)
-all-remap τ i m n [] t h = tt
-all-remap τ i m n (s ∷ l) t h = (here-remap τ i m n s t (h .0), all-remap τ i m n l t (h .1))
+all-remap τ i m n l t = map-all (Here i n) (remapOrder τ) l (λ s. here-remap τ i m n s t)
 
 all-below : (i n : ℕ) (l : List ℕ) → All (Here i n) l → allBelow n l ≡ true
 unfolding allBelow

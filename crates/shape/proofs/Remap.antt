@@ -3,18 +3,16 @@ use mathlib.Core.Path.{_≡_, refl, sym, ap, ap₂, _∙_}
 use Prim.Native.Nat.{ℕ, zero, suc, _+_, _≤_, _<_}
 use native.Mathlib.Nat.{not-suc-le-zero, le-of-suc-le-suc}
 use native.Mathlib.Omega.{arith}
-use native.Mathlib.Decide.{ℕ-discrete}
 use mathlib.Core.Bool.{Bool, true, false, not, _&&_}
 use mathlib.Core.List.{List, [], _∷_, map}
 use lib.ListN.{length, getD, set, length-map, length-set, replicate, length-replicate}
 use lib.Seq.{getD-set-same, getD-set-other}
 use lib.Dec.{ltb}
-use borrow.Author.Tests.{lt-ltb, ne-eqb}
+use borrow.Author.Tests.{lt-ltb}
 use Rattle.laws.specs.Bools.{xor, bit}
 use Rattle.laws.specs.Lists.{All, Fresh, Distinct}
 use Rattle.laws.proofs.Lists.{all-map, all-at, all-of, getD-map-in}
 use Rattle.laws.proofs.Bools.{and-left, and-right, and-both}
-use Rattle.laws.proofs.Choices.{clash}
 use Rattle.model.specs.Signal.{Ref, rzero, rnode, rinput, ref, wordOf, isInverted, flip, fromVar, remapOrder, remapRef}
 use Rattle.model.specs.Gate.{Gate, Net, isDff, remapGate, noGate, gateAt, size, shaped, allShaped, fanin, combs, namedRef, named, allNamed, gatesNamed, wired, Valid}
 use Rattle.model.specs.Network.{isD, has, sumTo, fill, translation, remap}
@@ -22,7 +20,7 @@ use Rattle.model.proofs.Words.{flip-ref, node-ref}
 use Rattle.model.proofs.Names.{Names, In, node-names, in-remap, Sorted, wired-gate, wired-outs}
 use Rattle.shape.specs.Forms.{Ranked, Kept, Before, Order, Topo}
 use Rattle.shape.proofs.Sums.{bit-le, sumOver, sum-distinct, length-distinct}
-use Rattle.shape.proofs.Members.{has-head}
+use Rattle.shape.proofs.Members.{fresh-of}
 
 -- ---- the translation
 
@@ -41,13 +39,6 @@ zeros : (n v : ℕ) → _≡_ {A = ℕ} (getD (replicate n 0) v 0) 0
 zeros zero v = refl
 zeros (suc n) zero = refl
 zeros (suc n) (suc v) = zeros n v
-
-fresh-of : (v : ℕ) (l : List ℕ) → has v l ≡ false → Fresh v l
-fresh-of v [] h = tt
-fresh-of v (x ∷ l) h = (
-  (λ e. clash (has-head v x l e) h),
-  fresh-of v l (elim (ℕ-discrete x v) [ yes e ↦ clash (has-head v x l e) h | no e ↦ rw (ne-eqb x v e) at h ]),
-)
 
 -- what is not in the order maps to zero
 pub translation-removed : (n : ℕ) (order : List ℕ) (v : ℕ) → has v order ≡ false → translation n order v ≡ 0
