@@ -1,10 +1,10 @@
 -- What gates cost in all: a pass builds no more pairs than its gates have inputs, less one each; so no pass raises the cost.
-use mathlib.Core.Path.{_≡_, refl, sym, ap₂, _∙_}
+use mathlib.Core.Path.{_≡_, refl, sym, _∙_}
 use Prim.Native.Nat.{ℕ, zero, suc, _+_, zero-le, _≤_, _<_}
 use native.Mathlib.Nat.{le-refl}
 use native.Mathlib.Omega.{arith}
-use mathlib.Core.Bool.{Bool, true, false, not, cond}
-use mathlib.Core.List.{List, [], _++_, map, _∷_}
+use mathlib.Core.Bool.{Bool, true, false, not}
+use mathlib.Core.List.{List, [], map, _∷_}
 use lib.ListN.{length, getD, set, length-append}
 use lib.Dec.{ltb}
 use borrow.Author.Tests.{ltb-true}
@@ -18,11 +18,11 @@ use Rattle.laws.proofs.Choices.{by-bool}
 use Rattle.model.specs.Signal.{fromVar}
 use Rattle.model.specs.Gate.{Gate, Net, size, Valid, gateAt, isDff, isTopoSorted, remapGate, shaped}
 use Rattle.model.specs.Normal.{made, gateOf, makeCanonical}
-use Rattle.model.specs.Network.{sumTo, canonical, dedupCombs, dedupWith, remap, remapDff, sorts, topoOrder, topoSort, translation}
+use Rattle.model.specs.Network.{canonical, dedupCombs, dedupWith, remapDff, sorts, topoOrder, topoSort}
 use Rattle.model.specs.Sharing.{Pair, State, exclusiveSignals, factoring, giveBack, joinRound, once, replacePair, retain, roundLeft, roundPairs, sharedSignals, taken, total, factorGates, grown, inside, pairGate, passRefusal, replaced, takes}
-use Rattle.shape.proofs.Sums.{sumOver, sum-add, sum-distinct, sum-same}
+use Rattle.shape.proofs.Sums.{sumList, list-append, list-map, list-ones}
+use Rattle.shape.proofs.Remap.{remap-weigh}
 use Rattle.shape.proofs.Sort.{sort-order}
-use Rattle.shape.proofs.DedupSweep as sums
 use Rattle.shape.proofs.DedupSweep.{askedGate, asked, due-total, weigh}
 use Rattle.shape.proofs.FactoringFuel.{TwoIn, shrinks}
 use Rattle.shape.proofs.FactoringSteps.{allPairs-keeps, consume-keeps, joins-keep}
@@ -114,42 +114,24 @@ module _ (w : Gate → ℕ) (renamed : (τ : ℕ → ℕ) (g : Gate) → w (rema
           asked-keeps N (λ h. w h ≡ w (gateAt N n)) (λ τ h e. renamed τ h ∙ e) τ n refl,
         )
 
-    turned-weights : (τ : ℕ → ℕ) (l : List Gate) → sums.total w (map (remapDff makeCanonical N τ) l) ≡ sums.total w l
-    turned-weights τ [] = refl
-    turned-weights τ (g ∷ l) = ap₂ _+_ (by-bool (isDff g) (λ d. rw d (renamed τ g)) (λ d. rw d)) (turned-weights τ l)
+    turned-weights : (τ : ℕ → ℕ) (l : List Gate) → sumList w (map (remapDff makeCanonical N τ) l) ≡ sumList w l
+    turned-weights τ = list-map w (remapDff makeCanonical N τ) w (λ g. by-bool (isDff g) (λ d. rw d (renamed τ g)) (λ d. rw d))
 
-    pub canonical-weights : sums.total w (canonical N .nodes) ≤ sums.total w (N .nodes)
+    pub canonical-weights : sumList w (canonical N .nodes) ≤ sumList w (N .nodes)
     unfolding dedupWith
     canonical-weights =
         let d = dedupCombs makeCanonical N (size N) in
         omega (arith, turned-weights (d .trans) (d .news), weigh makeCanonical N w light false (size N) (le-refl _), due-total makeCanonical N w)
 
   -- nor does sort
-  nodes-weights : sumTo (λ i. w (gateAt N i)) (size N) ≡ sums.total w (N .nodes)
-  nodes-weights =
-      let d : ℕ → ℕ = λ i. cond (isDff (gateAt N i)) (w (gateAt N i)) 0 in
-      let c : ℕ → ℕ = λ i. cond (isDff (gateAt N i)) 0 (w (gateAt N i)) in
-      sum-same (λ i. w (gateAt N i)) (λ i. d i + c i) (size N) (λ i l. by-bool (isDff (gateAt N i)) (λ e. rw e (omega arith)) (λ e. rw e (omega arith)))
-      ∙ sym (sum-add d c (size N)) ∙ due-total makeCanonical N w
-
-  order-weights : (τ : ℕ → ℕ) (l : List ℕ) → sums.total w (map (λ o. remapGate τ (gateAt N o)) l) ≡ sumOver (λ o. w (gateAt N o)) l
-  order-weights τ [] = refl
-  order-weights τ (o ∷ l) = ap₂ _+_ (renamed τ (gateAt N o)) (order-weights τ l)
-
-  pub sort-weights : sorts N ≡ true → sums.total w (topoSort N .nodes) ≤ sums.total w (N .nodes)
-  unfolding topoSort remap
-  sort-weights ok =
-      let O = sort-order N (A .signals) ok in
-      omega (arith, order-weights (translation (size N) (topoOrder N)) (topoOrder N), sum-distinct (size N) (λ o. w (gateAt N o)) (topoOrder N) (O .distinct) (O .bound), nodes-weights)
+  pub sort-weights : sorts N ≡ true → sumList w (topoSort N .nodes) ≤ sumList w (N .nodes)
+  unfolding topoSort
+  sort-weights ok = remap-weigh N (topoOrder N) (sort-order N (A .signals) ok) w renamed
 
 -- ---- the cost of a network
 
 abbrev pub costs : List Gate → ℕ
-costs gs = sums.total cost gs
-
-costs-append : (a b : List Gate) → costs (a ++ b) ≡ costs a + costs b
-costs-append [] b = omega arith
-costs-append (g ∷ a) b = omega (arith, costs-append a b)
+costs gs = sumList cost gs
 
 pair-cost : (f : Family) (x : Pair) → cost (pairGate f x) ≡ 1
 unfolding cost kindOf
@@ -157,8 +139,7 @@ pair-cost And x = refl
 pair-cost Xor x = refl
 
 pairs-cost : (f : Family) (ps : List Pair) → costs (map (pairGate f) ps) ≡ length ps
-pairs-cost f [] = refl
-pairs-cost f (x ∷ ps) = omega (arith, pair-cost f x, pairs-cost f ps)
+pairs-cost f ps = list-map cost (pairGate f) (λ x. 1) (pair-cost f) ps ∙ list-ones ps
 
 buf-cost : (l : List ℕ) → cost (gateOf Buf l) ≡ 0
 unfolding cost kindOf
@@ -189,7 +170,7 @@ replaced-cost f (g ∷ gs) (l ∷ ls) h e = by-bool (takes f g)
 
 grown-cost : (f : Family) (N : Net) → All CanonicalKind (N .nodes) → costs (grown f N .nodes) ≤ costs (N .nodes)
 grown-cost f N h =
-    rw (grown-nodes f N, costs-append (replaced f (N .nodes) (ended f N .lists)) (map (pairGate f) (ended f N .built)))
+    rw (grown-nodes f N, list-append cost (replaced f (N .nodes) (ended f N .lists)) (map (pairGate f) (ended f N .built)))
     (omega (arith, replaced-cost f (N .nodes) (ended f N .lists) h (length-ended f N), pairs-cost f (ended f N .built), built-few f N))
 
 -- A PASS DOES NOT RAISE THE COST

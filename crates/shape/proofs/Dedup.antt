@@ -1,7 +1,7 @@
 -- dedup of a valid, sorted network: the result is valid and sorted, no larger, and every old node's mapped signal names something there.
 use mathlib.Core.Path.{_≡_, refl, sym, ap, ap₂, _∙_, subst}
 use mathlib.Core.Logic.{_≢_, _⊎_, inl, inr}
-use Prim.Native.Nat.{ℕ, suc, _+_, _≤_, _<_}
+use Prim.Native.Nat.{ℕ, suc, _≤_, _<_}
 use native.Mathlib.Nat.{le-refl, not-suc-le-zero}
 use native.Mathlib.Omega.{arith}
 use native.Mathlib.Decide.{ℕ-discrete, decLt}
@@ -19,7 +19,8 @@ use Rattle.model.specs.Network.{Work, dedupNode, dedupCombs, remapDff, dedupWit
 use Rattle.shape.proofs.Named.{Here, here-zero, here-var, here-flip, here-more, here-node, all-remap, shaped-at, shaped-all, wired-ins, wired-outs, wired-all, sorted-ins, sorted-all}
 use Rattle.shape.proofs.DedupNormal.{Closed, Form, NormLaw}
 use Rattle.shape.proofs.DedupPlace.{Result, result-ext, Put, put-is}
-use Rattle.shape.proofs.DedupSweep.{total, fanin-total, length-total, shaped-remap, isD, asked, upTo, upTo-start, sweep, due-total, due-most, upTo-turn, asked-comb, asked-cell, count, inputs, gates, combOf, combs-total}
+use Rattle.shape.proofs.Sums.{list-map, length-total, fanin-total, combOf, combs-total}
+use Rattle.shape.proofs.DedupSweep.{shaped-remap, isD, asked, upTo, upTo-start, sweep, due-total, due-most, upTo-turn, asked-comb, asked-cell, count, inputs, gates}
 
 here-closed : (i n : ℕ) → Closed (Here i n)
 here-closed i n = record { has-zero = here-zero i n; has-flip = λ s b h. here-flip i n s b h }
@@ -251,17 +252,13 @@ module _ (norm : Gate → Norm) (law : NormLaw norm) (N : Net) (ok : Valid N) (s
       (λ e. ap (λ (h : Gate). length (h .ins)) (turned-cell τ g e) ∙ length-map (g .ins) (remapOrder τ))
       (λ e. ap (λ (h : Gate). length (h .ins)) (turned-comb τ g e))
 
-  total-turned : (w : Gate → ℕ) (τ : ℕ → ℕ) → ((g : Gate) → w (remapDff norm N τ g) ≡ w g) → (l : List Gate) → total w (map (remapDff norm N τ) l) ≡ total w l
-  total-turned w τ h [] = refl
-  total-turned w τ h (g ∷ l) = ap₂ _+_ (h g) (total-turned w τ h l)
-
   pub dedup-size : size result ≤ size N
   dedup-size = let h = few false (size N) (le-refl _) in omega (arith, result-size)
 
   pub dedup-fanin : fanin (result .nodes) ≤ fanin (N .nodes)
   dedup-fanin =
       let w : Gate → ℕ = λ g. length (g .ins) in
-      let a = total-turned w (W .trans) (turned-length (W .trans)) (W .news) in
+      let a = list-map w (remapDff norm N (W .trans)) w (turned-length (W .trans)) (W .news) in
       let b = inputs norm N law (ok .gates-shaped) false (size N) (le-refl _) in
       let c = due-total norm N w in
       rw (fanin-total (result .nodes), fanin-total (N .nodes), result-nodes) (omega (arith, fanin-total (W .news)))
@@ -269,7 +266,7 @@ module _ (norm : Gate → Norm) (law : NormLaw norm) (N : Net) (ok : Valid N) (s
   -- NO MORE COMBINATIONAL GATES than before
   pub dedup-combs : combs (result .nodes) ≤ combs (N .nodes)
   dedup-combs =
-      let a = total-turned combOf (W .trans) (λ g. ap (λ b. bit (not b)) (turned-dff (W .trans) g)) (W .news) in
+      let a = list-map combOf (remapDff norm N (W .trans)) combOf (λ g. ap (λ b. bit (not b)) (turned-dff (W .trans) g)) (W .news) in
       let b = gates norm N law (ok .gates-shaped) false (size N) (le-refl _) in
       let c = due-total norm N combOf in
       rw (combs-total (result .nodes), combs-total (N .nodes), result-nodes) (omega (arith, combs-total (W .news)))

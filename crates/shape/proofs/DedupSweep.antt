@@ -6,54 +6,19 @@ use native.Mathlib.Nat.{le-refl, not-suc-le-zero}
 use native.Mathlib.Omega.{arith}
 use native.Mathlib.Decide.{ℕ-discrete, decLt}
 use mathlib.Core.Bool.{Bool, true, false, not, cond}
-use mathlib.Core.List.{List, [], _∷_, _++_, map}
+use mathlib.Core.List.{List, [], _∷_, map}
 use lib.ListN.{length, getD, length-map}
-use Rattle.laws.specs.Bools.{bit}
 use Rattle.laws.specs.Lists.{All}
 use Rattle.laws.proofs.Choices.{by-bool}
 use Rattle.model.specs.Signal.{fromVar, remapOrder}
 use Rattle.model.specs.Gate.{Gate, Net, isDff, remapGate, noGate, gateAt, size, shaped, allShaped, fanin, combs}
 use Rattle.model.specs.Normal.{Norm, copied, made}
 use Rattle.model.specs.Network.{sumTo, Work, dedupNode, dedupDffs, dedupCombs}
+use Rattle.shape.proofs.Sums.{sumList, list-append, list-sum, combOf, combs-total}
+pub use Rattle.shape.proofs.Sums.{fanin-total, length-total}
 use Rattle.shape.proofs.Named.{shaped-at}
 use Rattle.shape.proofs.DedupNormal.{Closed, Form, NormLaw, made-few, made-dff}
 use Rattle.shape.proofs.DedupPlace.{Ext, ext-refl, ext-trans, put-is, Grown, same, more, grown}
-
--- ---- weights of lists of gates
-
-abbrev pub total : (Gate → ℕ) → List Gate → ℕ
-total w [] = 0
-total w (g ∷ gs) = w g + total w gs
-
-pub total-snoc : (w : Gate → ℕ) (l : List Gate) (g : Gate) → total w (l ++ (g ∷ [])) ≡ total w l + w g
-total-snoc w [] g = omega arith
-total-snoc w (h ∷ l) g = let e = total-snoc w l g in omega arith
-
-pub fanin-total : (l : List Gate) → fanin l ≡ total (λ g. length (g .ins)) l
-unfolding fanin
-fanin-total [] = refl
-fanin-total (g ∷ l) = ap (λ n. length (g .ins) + n) (fanin-total l)
-
-pub length-total : (l : List Gate) → length l ≡ total (λ g. 1) l
-length-total [] = refl
-length-total (g ∷ l) = let e = length-total l in omega arith
-
--- a combinational gate weighs one
-abbrev pub combOf : Gate → ℕ
-combOf g = bit (not (isDff g))
-
-pub combs-total : (l : List Gate) → combs l ≡ total combOf l
-unfolding combs
-combs-total [] = refl
-combs-total (g ∷ l) = ap (λ n. combOf g + n) (combs-total l)
-
-sum-suc : (f : ℕ → ℕ) (k : ℕ) → sumTo f (suc k) ≡ f 0 + sumTo (λ i. f (suc i)) k
-sum-suc f zero = omega arith
-sum-suc f (suc k) = let e = sum-suc f k in omega arith
-
-total-sum : (w : Gate → ℕ) (l : List Gate) → sumTo (λ i. w (getD l i noGate)) (length l) ≡ total w l
-total-sum w [] = refl
-total-sum w (g ∷ l) = sum-suc (λ i. w (getD (g ∷ l) i noGate)) (length l) ∙ ap (λ n. w g + n) (total-sum w l)
 
 pub shaped-remap : (τ : ℕ → ℕ) (g : Gate) → shaped (remapGate τ g) ≡ shaped g
 unfolding shaped
@@ -147,8 +112,8 @@ module _ (norm : Gate → Norm) (N : Net) where
     both zero = refl
     both (suc k) = let e = both k in by-bool (isD k) (λ d. rw d (omega arith)) (λ d. rw d (omega arith))
 
-    pub due-total : due false (size N) ≡ total w (N .nodes)
-    due-total = both (size N) ∙ total-sum w (N .nodes)
+    pub due-total : due false (size N) ≡ sumList w (N .nodes)
+    due-total = both (size N) ∙ list-sum w (N .nodes) noGate
 
     due-turn : (b : Bool) (k : ℕ) → isD k ≡ b → due b (suc k) ≡ due b k + w (gateAt N k)
     due-turn true k e = rw e
@@ -158,35 +123,35 @@ module _ (norm : Gate → Norm) (N : Net) where
     due-skip true k e = rw e (omega arith)
     due-skip false k e = rw e (omega arith)
 
-    pub due-most : (b : Bool) (k : ℕ) → k ≤ size N → due b k ≤ total w (N .nodes)
+    pub due-most : (b : Bool) (k : ℕ) → k ≤ size N → due b k ≤ sumList w (N .nodes)
     due-most true k h = let m = sum-mono ofDff k (size N) h in let t = due-total in omega arith
     due-most false k h = let m = sum-mono ofComb k (size N) h in let t = due-total in omega arith
 
     -- a node that is still to be looked up has its weight left
-    pub due-left : (b : Bool) (k : ℕ) → k < size N → isD k ≡ b → due b k + w (gateAt N k) ≤ total w (N .nodes)
+    pub due-left : (b : Bool) (k : ℕ) → k < size N → isD k ≡ b → due b k + w (gateAt N k) ≤ sumList w (N .nodes)
     due-left b k h e = let m = due-most b (suc k) h in let q = due-turn b k e in omega arith
 
     module _ (light : (τ : ℕ → ℕ) (n : ℕ) → n < size N → (g : Gate) (z : Bool) → asked τ n ≡ made g z → w g ≤ w (gateAt N n)) where
-      none-yet : total w (upTo true 0 .news) ≤ 0
+      none-yet : sumList w (upTo true 0 .news) ≤ 0
       none-yet = rw upTo-start (le-refl 0)
 
-      pub weigh : (b : Bool) (k : ℕ) → k ≤ size N → total w (upTo b k .news) ≤ due b k
-      weigh = sweep (λ b k d. total w (d .news) ≤ due b k) none-yet turn
+      pub weigh : (b : Bool) (k : ℕ) → k ≤ size N → sumList w (upTo b k .news) ≤ due b k
+      weigh = sweep (λ b k d. sumList w (d .news) ≤ due b k) none-yet turn
           (λ b k h e p. let q = due-skip b k e in omega arith)
           (λ p. omega arith)
         where
-          turn : (b : Bool) (k : ℕ) → k < size N → isD k ≡ b → total w (upTo b k .news) ≤ due b k → total w (dedupNode (asked (upTo b k .trans) k) k (upTo b k) .news) ≤ due b (suc k)
+          turn : (b : Bool) (k : ℕ) → k < size N → isD k ≡ b → sumList w (upTo b k .news) ≤ due b k → sumList w (dedupNode (asked (upTo b k .trans) k) k (upTo b k) .news) ≤ due b (suc k)
           turn b k h e p = go (grown (asked (upTo b k .trans) k) k (upTo b k))
             where
               m : List Gate
               m = dedupNode (asked (upTo b k .trans) k) k (upTo b k) .news
 
-              go : Grown (asked (upTo b k .trans) k) (upTo b k .news) m → total w m ≤ due b (suc k)
+              go : Grown (asked (upTo b k .trans) k) (upTo b k .news) m → sumList w m ≤ due b (suc k)
               go (same q) = let r = due-turn b k e in rw q (omega arith)
               go (more g z q r) =
                   let s = due-turn b k e in
                   let l = light (upTo b k .trans) k h g z q in
-                  let t = total-snoc w (upTo b k .news) g in
+                  let t = list-append w (upTo b k .news) (g ∷ []) in
                   rw r (omega arith)
 
   -- ---- what is looked up, by the law of the normalization

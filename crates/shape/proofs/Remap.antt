@@ -1,25 +1,25 @@
 -- remap by an order: where each node goes; the result is valid, sorted where the order is, and no larger than its source.
-use mathlib.Core.Path.{_≡_, refl, sym, ap, ap₂, _∙_}
+use mathlib.Core.Path.{_≡_, refl, sym, ap, _∙_}
 use Prim.Native.Nat.{ℕ, zero, suc, _+_, _≤_, _<_}
 use native.Mathlib.Nat.{not-suc-le-zero, le-of-suc-le-suc}
 use native.Mathlib.Omega.{arith}
-use mathlib.Core.Bool.{Bool, true, false, not, _&&_}
+use mathlib.Core.Bool.{Bool, true, false, _&&_}
 use mathlib.Core.List.{List, [], _∷_, map}
 use lib.ListN.{length, getD, set, length-map, length-set, replicate, length-replicate}
 use lib.Seq.{getD-set-same, getD-set-other}
 use lib.Dec.{ltb}
 use borrow.Author.Tests.{lt-ltb}
-use Rattle.laws.specs.Bools.{xor, bit}
+use Rattle.laws.specs.Bools.{xor}
 use Rattle.laws.specs.Lists.{All, Fresh, Distinct}
 use Rattle.laws.proofs.Lists.{all-map, all-at, all-of, getD-map-in}
 use Rattle.laws.proofs.Bools.{and-left, and-right, and-both}
 use Rattle.model.specs.Signal.{Ref, rzero, rnode, rinput, ref, wordOf, isInverted, flip, fromVar, remapOrder, remapRef}
 use Rattle.model.specs.Gate.{Gate, Net, isDff, remapGate, noGate, gateAt, size, shaped, allShaped, fanin, combs, namedRef, named, allNamed, gatesNamed, wired, Valid}
-use Rattle.model.specs.Network.{isD, has, sumTo, fill, translation, remap}
+use Rattle.model.specs.Network.{isD, has, fill, translation, remap}
 use Rattle.model.proofs.Words.{flip-ref, node-ref}
 use Rattle.model.proofs.Names.{Names, In, node-names, in-remap, Sorted, wired-gate, wired-outs}
 use Rattle.shape.specs.Forms.{Ranked, Kept, Before, Order, Topo}
-use Rattle.shape.proofs.Sums.{bit-le, sumOver, sum-distinct, length-distinct}
+use Rattle.shape.proofs.Sums.{bit-le, sumList, list-map, list-sum, fanin-total, combOf, combs-total, sum-distinct, length-distinct}
 use Rattle.shape.proofs.Members.{fresh-of}
 
 -- ---- the translation
@@ -52,35 +52,6 @@ translation-kept n order distinct bound v k =
     ap (λ x. getD (fill (replicate n 0) 0 order) x 0) (sym (k .2))
     ∙ fill-at order (replicate n 0) 0 (k .0) distinct (rw length-replicate bound) (k .1)
     ∙ ap fromVar (omega arith)
-
--- ---- gates by their weight
-
-module _ (w : Gate → ℕ) where
-  abbrev weigh : List Gate → ℕ
-  weigh [] = 0
-  weigh (g ∷ gs) = w g + weigh gs
-
-  weigh-map : (f : ℕ → Gate) (u : ℕ → ℕ) (l : List ℕ) → ((o : ℕ) → w (f o) ≡ u o) → weigh (map f l) ≡ sumOver u l
-  weigh-map f u [] h = refl
-  weigh-map f u (o ∷ l) h = ap₂ _+_ (h o) (weigh-map f u l h)
-
-  weigh-sum : (gs : List Gate) → sumTo (λ v. w (getD gs v noGate)) (length gs) ≡ weigh gs
-  weigh-sum [] = refl
-  weigh-sum (g ∷ gs) = sum-front (λ v. w (getD (g ∷ gs) v noGate)) (length gs) ∙ ap (λ x. w g + x) (weigh-sum gs)
-    where
-      sum-front : (f : ℕ → ℕ) (n : ℕ) → sumTo f (suc n) ≡ f 0 + sumTo (λ u. f (suc u)) n
-      sum-front f zero = omega arith
-      sum-front f (suc n) = omega (arith, sum-front f n)
-
-fanin-weigh : (gs : List Gate) → fanin gs ≡ weigh (λ g. length (g .ins)) gs
-unfolding fanin
-fanin-weigh [] = refl
-fanin-weigh (g ∷ gs) = ap (λ x. length (g .ins) + x) (fanin-weigh gs)
-
-combs-weigh : (gs : List Gate) → combs gs ≡ weigh (λ g. bit (not (isDff g))) gs
-unfolding combs
-combs-weigh [] = refl
-combs-weigh (g ∷ gs) = ap (λ x. bit (not (isDff g)) + x) (combs-weigh gs)
 
 -- ---- shapes and names, gate by gate
 
@@ -205,22 +176,22 @@ module _ (N : Net) (order : List ℕ) where
 
     -- no more of anything that a gate brings with it wherever it stands
     module _ (w : Gate → ℕ) (same : (t : ℕ → ℕ) (g : Gate) → w (remapGate t g) ≡ w g) where
-      remap-weigh : weigh w (remap order N .nodes) ≤ weigh w (N .nodes)
+      pub remap-weigh : sumList w (remap order N .nodes) ≤ sumList w (N .nodes)
       unfolding remap
       remap-weigh =
           omega (
             arith,
-            weigh-map w (λ o. remapGate τ (gateAt N o)) (λ o. w (gateAt N o)) order (λ o. same τ (gateAt N o)),
+            list-map w (λ o. remapGate τ (gateAt N o)) (λ o. w (gateAt N o)) (λ o. same τ (gateAt N o)) order,
             sum-distinct (size N) (λ o. w (gateAt N o)) order (O .distinct) (O .bound),
-            weigh-sum w (N .nodes),
+            list-sum w (N .nodes) noGate,
           )
 
     pub remap-fanin : fanin (remap order N .nodes) ≤ fanin (N .nodes)
     remap-fanin =
         omega (
           arith,
-          fanin-weigh (remap order N .nodes),
-          fanin-weigh (N .nodes),
+          fanin-total (remap order N .nodes),
+          fanin-total (N .nodes),
           remap-weigh (λ g. length (g .ins)) (λ t g. length-map (g .ins) (remapOrder t)),
         )
 
@@ -228,9 +199,9 @@ module _ (N : Net) (order : List ℕ) where
     remap-combs =
         omega (
           arith,
-          combs-weigh (remap order N .nodes),
-          combs-weigh (N .nodes),
-          remap-weigh (λ g. bit (not (isDff g))) (λ t g. refl),
+          combs-total (remap order N .nodes),
+          combs-total (N .nodes),
+          remap-weigh combOf (λ t g. refl),
         )
 
     -- valid, where the source is

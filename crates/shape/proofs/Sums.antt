@@ -1,17 +1,18 @@
--- Sums over the nodes of a network, and over a list of them.
-use mathlib.Core.Path.{_≡_, refl, sym, ap, ap₂}
+-- Sums over the nodes of a network, over a list of them, and over a list of gates.
+use mathlib.Core.Path.{_≡_, refl, sym, ap, ap₂, _∙_}
 use mathlib.Core.Logic.{_≢_}
 use Prim.Native.Nat.{ℕ, zero, suc, _+_, _≤_, _<_, zero-le}
 use native.Mathlib.Nat.{not-suc-le-zero, le-refl}
 use native.Mathlib.Omega.{arith}
 use native.Mathlib.Decide.{ℕ-discrete}
-use mathlib.Core.Bool.{Bool, true, false}
-use mathlib.Core.List.{List, [], _∷_}
-use lib.ListN.{length}
+use mathlib.Core.Bool.{Bool, true, false, not}
+use mathlib.Core.List.{List, [], _∷_, _++_, map}
+use lib.ListN.{length, getD}
 use lib.Dec.{eqb}
 use borrow.Author.Tests.{eq-eqb, ne-eqb}
 use Rattle.laws.specs.Bools.{bit}
 use Rattle.laws.specs.Lists.{All, Fresh, Distinct}
+use Rattle.model.specs.Gate.{Gate, isDff, fanin, combs}
 use Rattle.model.specs.Network.{sumTo, upd}
 
 -- ---- a function with one value changed
@@ -99,11 +100,56 @@ pub sum-ones : (f : ℕ → ℕ) (n : ℕ) → ((u : ℕ) → u < n → f u ≡ 
 sum-ones f zero h = refl
 sum-ones f (suc n) h = omega (arith, sum-ones f n (λ u l. h u (omega arith)), h n (le-refl _))
 
+-- ---- sums over a list
+
+abbrev pub sumList : {A : Type 0} → (A → ℕ) → List A → ℕ
+sumList f [] = 0
+sumList f (x ∷ l) = f x + sumList f l
+
+pub list-append : {A : Type 0} (f : A → ℕ) (a b : List A) → sumList f (a ++ b) ≡ sumList f a + sumList f b
+list-append f [] b = omega arith
+list-append f (x ∷ a) b = omega (arith, list-append f a b)
+
+pub list-map : {A B : Type 0} (f : B → ℕ) (h : A → B) (g : A → ℕ) → ((a : A) → f (h a) ≡ g a) → (l : List A) → sumList f (map h l) ≡ sumList g l
+list-map f h g e [] = refl
+list-map f h g e (x ∷ l) = ap₂ _+_ (e x) (list-map f h g e l)
+
+pub list-ones : {A : Type 0} (l : List A) → sumList (λ x. 1) l ≡ length l
+list-ones [] = refl
+list-ones (x ∷ l) = omega (arith, list-ones l)
+
+sum-front : (f : ℕ → ℕ) (n : ℕ) → sumTo f (suc n) ≡ f 0 + sumTo (λ u. f (suc u)) n
+sum-front f zero = omega arith
+sum-front f (suc n) = omega (arith, sum-front f n)
+
+-- place by place
+pub list-sum : {A : Type 0} (f : A → ℕ) (l : List A) (d : A) → sumTo (λ i. f (getD l i d)) (length l) ≡ sumList f l
+list-sum f [] d = refl
+list-sum f (x ∷ l) d = sum-front (λ i. f (getD (x ∷ l) i d)) (length l) ∙ ap (λ n. f x + n) (list-sum f l d)
+
+-- ---- what is counted of a list of gates
+
+pub length-total : (l : List Gate) → length l ≡ sumList (λ g. 1) l
+length-total l = sym (list-ones l)
+
+pub fanin-total : (l : List Gate) → fanin l ≡ sumList (λ g. length (g .ins)) l
+unfolding fanin
+fanin-total [] = refl
+fanin-total (g ∷ l) = ap (λ n. length (g .ins) + n) (fanin-total l)
+
+-- a combinational gate weighs one
+abbrev pub combOf : Gate → ℕ
+combOf g = bit (not (isDff g))
+
+pub combs-total : (l : List Gate) → combs l ≡ sumList combOf l
+unfolding combs
+combs-total [] = refl
+combs-total (g ∷ l) = ap (λ n. combOf g + n) (combs-total l)
+
 -- ---- a sum over nodes without repeats is at most the sum over all
 
 abbrev pub sumOver : (ℕ → ℕ) → List ℕ → ℕ
-sumOver f [] = 0
-sumOver f (x ∷ l) = f x + sumOver f l
+sumOver f l = sumList f l
 
 over-same : (f g : ℕ → ℕ) (x : ℕ) (l : List ℕ) → Fresh x l → ((u : ℕ) → u ≢ x → f u ≡ g u) → sumOver f l ≡ sumOver g l
 over-same f g x [] a h = refl
@@ -120,10 +166,6 @@ sum-distinct n f (x ∷ l) d a =
       sum-distinct n (upd f x 0) l (d .1) (a .1),
     )
 
-over-ones : (l : List ℕ) → sumOver (λ x. 1) l ≡ length l
-over-ones [] = refl
-over-ones (x ∷ l) = omega (arith, over-ones l)
-
 -- so there are at most n of them
 pub length-distinct : (n : ℕ) (l : List ℕ) → Distinct l → All (λ x. x < n) l → length l ≤ n
-length-distinct n l d a = omega (arith, sum-distinct n (λ x. 1) l d a, over-ones l, sum-ones (λ x. 1) n (λ u h. refl))
+length-distinct n l d a = omega (arith, sum-distinct n (λ x. 1) l d a, list-ones l, sum-ones (λ x. 1) n (λ u h. refl))
