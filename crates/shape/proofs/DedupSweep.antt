@@ -17,12 +17,9 @@ use Rattle.model.specs.Network.{sumTo, Work, dedupNode, dedupDffs, dedupCombs}
 use Rattle.shape.proofs.Sums.{sumList, list-append, list-sum, combOf, combs-total}
 pub use Rattle.shape.proofs.Sums.{fanin-total, length-total}
 use Rattle.shape.proofs.Named.{shaped-at}
+pub use Rattle.shape.proofs.Named.{shaped-remap}
 use Rattle.shape.proofs.DedupNormal.{Closed, Form, NormLaw, made-few, made-dff}
 use Rattle.shape.proofs.DedupPlace.{Ext, ext-refl, ext-trans, put-is, Grown, same, more, grown}
-
-pub shaped-remap : (τ : ℕ → ℕ) (g : Gate) → shaped (remapGate τ g) ≡ shaped g
-unfolding shaped
-shaped-remap τ g = rw (length-map (g .ins) (remapOrder τ))
 
 sum-mono : (f : ℕ → ℕ) (j k : ℕ) → j ≤ k → sumTo f j ≤ sumTo f k
 sum-mono f j zero h = let e : j ≡ 0 = omega arith in rw e (le-refl _)

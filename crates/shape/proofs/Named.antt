@@ -1,70 +1,43 @@
 -- Signals that name something present: inverted, in a larger network, translated. And a network's tests, gate by gate.
 use mathlib.Core.Path.{_≡_, refl, sym, ap, _∙_}
-use Prim.Native.Nat.{ℕ, zero, suc, _+_, _≤_, _<_}
+use Prim.Native.Nat.{ℕ, zero, suc, _≤_, _<_}
 use native.Mathlib.Nat.{not-suc-le-zero, le-of-suc-le-suc}
 use native.Mathlib.Omega.{arith}
-use mathlib.Core.Bool.{Bool, true, false, _||_}
+use mathlib.Core.Bool.{Bool, true, false}
 use mathlib.Core.List.{List, [], _∷_, map}
 use lib.ListN.{length, getD}
-use lib.Dec.{ltb}
 use borrow.Author.Tests.{ltb-true, lt-ltb}
-use Rattle.laws.specs.Bools.{xor, bit}
 use Rattle.laws.specs.Lists.{All}
 use Rattle.laws.proofs.Bools.{and-left, and-right, and-both}
-use Rattle.laws.proofs.Choices.{by-bool}
-use Rattle.laws.proofs.Lists.{map-all}
-use Rattle.model.specs.Signal.{Ref, rzero, rnode, rinput, ref, flip, wordOf, isInverted, fromVar, remapOrder, remapRef}
-use Rattle.model.specs.Gate.{Gate, Net, isDff, noGate, gateAt, size, shaped, allShaped, namedRef, named, allNamed, gatesNamed, wired, belowRef, allBelow, sortedFrom, isTopoSorted}
-use Rattle.model.proofs.Words.{flip-ref, zero-ref, node-ref}
+use Rattle.laws.proofs.Lists.{all-map, all-both, map-all, length-map}
+use Rattle.model.specs.Signal.{Ref, rzero, rnode, rinput, ref, flip, isInverted, fromVar, remapOrder, remapRef}
+use Rattle.model.specs.Gate.{Gate, Net, isDff, remapGate, noGate, gateAt, size, shaped, allShaped, namedRef, named, allNamed, gatesNamed, wired, isTopoSorted}
+use Rattle.model.proofs.Words.{zero-ref, node-ref}
+use Rattle.model.proofs.Named.{named-word, named-ref, named-of, named-flip}
+use Rattle.model.proofs.Names.{Names, named-names, sorted, sorted-test, wired-gate, wired-outs as outs-named}
 
 -- of a network with i inputs and n nodes: s names a constant, an input or a node
 abbrev pub Here : ℕ → ℕ → ℕ → Type 0
 Here i n s = named i n s ≡ true
 
-bit-le : (b : Bool) → bit b ≤ 1
-bit-le true = omega arith
-bit-le false = omega arith
-
-flip-word : (s : ℕ) (b : Bool) → s < 4294967296 → flip s b < 4294967296
-unfolding flip wordOf
-flip-word s b h = let l = bit-le (xor (isInverted s) b) in omega arith
-
 module _ (i n s : ℕ) where
   pub here-word : Here i n s → s < 4294967296
-  unfolding named
-  here-word h = ltb-true s 4294967296 (and-left (ltb s 4294967296) _ h)
-
-  here-ref : Here i n s → namedRef i n (ref s) ≡ true
-  unfolding named
-  here-ref h = and-right (ltb s 4294967296) _ h
-
-  here-is : s < 4294967296 → namedRef i n (ref s) ≡ true → Here i n s
-  unfolding named
-  here-is w r = and-both _ _ (lt-ltb s 4294967296 w) r
+  here-word = named-word i n s
 
   pub here-node : (v : ℕ) → Here i n s → ref s ≡ rnode v → v < n
-  here-node v h e = ltb-true v n (rw e at (here-ref h))
-
-  -- what sortedness asks of it
-  pub here-below : Here i n s → belowRef n (ref s) ≡ true
-  here-below h = go (ref s) (here-ref h)
-    where
-      go : (r : Ref) → namedRef i n r ≡ true → belowRef n r ≡ true
-      go rzero e = refl
-      go (rnode v) e = e
-      go (rinput k) e = refl
+  here-node v h = named-names i n s h v
 
 pub here-zero : (i n : ℕ) → Here i n 0
-here-zero i n = here-is i n 0 (omega arith) (ap (namedRef i n) zero-ref)
+here-zero i n = named-of i n 0 (omega arith) (ap (namedRef i n) zero-ref)
 
 pub here-var : (i n v : ℕ) → v < n → n ≤ 512 → Here i n (fromVar v)
-here-var i n v h l = here-is i n (fromVar v) (omega arith) (ap (namedRef i n) (node-ref v (omega arith)) ∙ lt-ltb v n h)
+here-var i n v h l = named-of i n (fromVar v) (omega arith) (ap (namedRef i n) (node-ref v (omega arith)) ∙ lt-ltb v n h)
 
 pub here-flip : (i n s : ℕ) (b : Bool) → Here i n s → Here i n (flip s b)
-here-flip i n s b h = here-is i n (flip s b) (flip-word s b (here-word i n s h)) (ap (namedRef i n) (flip-ref s b) ∙ here-ref i n s h)
+here-flip i n s b h = named-flip i n s b ∙ h
 
 pub here-more : (i m n s : ℕ) → m ≤ n → Here i m s → Here i n s
-here-more i m n s l h = here-is i n s (here-word i m s h) (go (ref s) (here-ref i m s h))
+here-more i m n s l h = named-of i n s (named-word i m s h) (go (ref s) (named-ref i m s h))
   where
     go : (r : Ref) → namedRef i m r ≡ true → namedRef i n r ≡ true
     go rzero e = refl
@@ -72,22 +45,23 @@ here-more i m n s l h = here-is i n s (here-word i m s h) (go (ref s) (here-ref 
     go (rinput k) e = e
 
 -- what names a node below k, where s names one of n
-pub here-less : (i n k s : ℕ) → Here i n s → belowRef k (ref s) ≡ true → Here i k s
-here-less i n k s h b = here-is i k s (here-word i n s h) (go (ref s) (here-ref i n s h) b)
+pub here-less : (i n k s : ℕ) → Here i n s → Names (λ m. m < k) s → Here i k s
+here-less i n k s h b = named-of i k s (named-word i n s h) (go (ref s) refl (named-ref i n s h))
   where
-    go : (r : Ref) → namedRef i n r ≡ true → belowRef k r ≡ true → namedRef i k r ≡ true
-    go rzero e f = refl
-    go (rnode v) e f = f
-    go (rinput j) e f = e
+    go : (r : Ref) → ref s ≡ r → namedRef i n r ≡ true → namedRef i k r ≡ true
+    go rzero q e = refl
+    go (rnode v) q e = lt-ltb v k (b v q)
+    go (rinput j) q e = e
 
-pub here-remap : (τ : ℕ → ℕ) (i m n s : ℕ) → ((v : ℕ) → v < m → Here i n (τ v)) → Here i m s → Here i n (remapOrder τ s)
+-- put through a translation of what it names
+pub here-through : (τ : ℕ → ℕ) (i m n s : ℕ) → Names (λ v. Here i n (τ v)) s → Here i m s → Here i n (remapOrder τ s)
 unfolding remapOrder
-here-remap τ i m n s t h = go (ref s) refl
+here-through τ i m n s t h = go (ref s) refl
   where
     go : (r : Ref) → ref s ≡ r → Here i n (remapRef τ r s)
-    go rzero e = here-is i n s (here-word i m s h) (ap (namedRef i n) e)
-    go (rnode v) e = here-flip i n (τ v) (isInverted s) (t v (here-node i m s v h e))
-    go (rinput k) e = here-is i n s (here-word i m s h) (ap (namedRef i n) e ∙ sym (ap (namedRef i m) e) ∙ here-ref i m s h)
+    go rzero e = named-of i n s (named-word i m s h) (ap (namedRef i n) e)
+    go (rnode v) e = here-flip i n (τ v) (isInverted s) (t v e)
+    go (rinput k) e = named-of i n s (named-word i m s h) (ap (namedRef i n) e ∙ sym (ap (namedRef i m) e) ∙ named-ref i m s h)
 
 -- ---- lists of signals
 
@@ -102,17 +76,7 @@ all-here i n [] h = refl
 all-here i n (s ∷ l) h = and-both (named i n s) _ (h .0) (all-here i n l (h .1))
 
 pub all-remap : (τ : ℕ → ℕ) (i m n : ℕ) (l : List ℕ) → ((v : ℕ) → v < m → Here i n (τ v)) → All (Here i m) l → All (Here i n) (map (remapOrder τ) l)
-all-remap τ i m n l t = map-all (Here i n) (remapOrder τ) l (λ s. here-remap τ i m n s t)
-
-all-below : (i n : ℕ) (l : List ℕ) → All (Here i n) l → allBelow n l ≡ true
-unfolding allBelow
-all-below i n [] h = refl
-all-below i n (s ∷ l) h = and-both (belowRef n (ref s)) _ (here-below i n s (h .0)) (all-below i n l (h .1))
-
-all-less : (i n k : ℕ) (l : List ℕ) → All (Here i n) l → allBelow k l ≡ true → All (Here i k) l
-unfolding allBelow
-all-less i n k [] h b = tt
-all-less i n k (s ∷ l) h b = (here-less i n k s (h .0) (and-left (belowRef k (ref s)) _ b), all-less i n k l (h .1) (and-right (belowRef k (ref s)) _ b))
+all-remap τ i m n l t = map-all (Here i n) (remapOrder τ) l (λ s h. here-through τ i m n s (λ v e. t v (here-node i m s v h e)) h)
 
 -- ---- a network's tests, gate by gate
 
@@ -127,11 +91,9 @@ unfolding allShaped
 shaped-all [] h = refl
 shaped-all (g ∷ gs) h = and-both (shaped g) _ (h 0 (omega arith)) (shaped-all gs (λ v l. h (suc v) (omega arith)))
 
-named-at : (i n : ℕ) (gs : List Gate) → gatesNamed i n gs ≡ true → (v : ℕ) → v < length gs → All (Here i n) (getD gs v noGate .ins)
-unfolding gatesNamed
-named-at i n [] h v l = absurd (not-suc-le-zero l)
-named-at i n (g ∷ gs) h zero l = here-all i n (g .ins) (and-left (allNamed i n (g .ins)) _ h)
-named-at i n (g ∷ gs) h (suc v) l = named-at i n gs (and-right (allNamed i n (g .ins)) _ h) v (le-of-suc-le-suc l)
+pub shaped-remap : (τ : ℕ → ℕ) (g : Gate) → shaped (remapGate τ g) ≡ shaped g
+unfolding shaped
+shaped-remap τ g = rw (length-map (remapOrder τ) (g .ins))
 
 named-all : (i n : ℕ) (gs : List Gate) → ((v : ℕ) → v < length gs → All (Here i n) (getD gs v noGate .ins)) → gatesNamed i n gs ≡ true
 unfolding gatesNamed
@@ -139,43 +101,21 @@ named-all i n [] h = refl
 named-all i n (g ∷ gs) h = and-both (allNamed i n (g .ins)) _ (all-here i n (g .ins) (h 0 (omega arith))) (named-all i n gs (λ v l. h (suc v) (omega arith)))
 
 pub wired-ins : (N : Net) → wired N ≡ true → (v : ℕ) → v < size N → All (Here (N .inputs) (size N)) (gateAt N v .ins)
-unfolding wired
-wired-ins N w = named-at (N .inputs) (size N) (N .nodes) (and-left (gatesNamed (N .inputs) (size N) (N .nodes)) _ w)
+wired-ins N w v l = here-all (N .inputs) (size N) (gateAt N v .ins) (wired-gate N w v l)
 
 pub wired-outs : (N : Net) → wired N ≡ true → All (Here (N .inputs) (size N)) (N .outs)
-unfolding wired
-wired-outs N w = here-all (N .inputs) (size N) (N .outs) (and-right (gatesNamed (N .inputs) (size N) (N .nodes)) _ w)
+wired-outs N w = here-all (N .inputs) (size N) (N .outs) (outs-named N w)
 
 pub wired-all : (N : Net) → ((v : ℕ) → v < size N → All (Here (N .inputs) (size N)) (gateAt N v .ins)) → All (Here (N .inputs) (size N)) (N .outs) → wired N ≡ true
 unfolding wired
 wired-all N h o = and-both (gatesNamed (N .inputs) (size N) (N .nodes)) _ (named-all (N .inputs) (size N) (N .nodes) h) (all-here (N .inputs) (size N) (N .outs) o)
 
-below-at : (b : ℕ) (gs : List Gate) → sortedFrom b gs ≡ true → (v : ℕ) → v < length gs → isDff (getD gs v noGate) ≡ false → allBelow (b + v) (getD gs v noGate .ins) ≡ true
-unfolding sortedFrom
-below-at b [] h v l d = absurd (not-suc-le-zero l)
-below-at b (g ∷ gs) h zero l d =
-    let e : (isDff g || allBelow b (g .ins)) ≡ true = and-left (isDff g || allBelow b (g .ins)) _ h in
-    let z : b + 0 ≡ b = omega arith in
-    rw z (rw d at e)
-below-at b (g ∷ gs) h (suc v) l d =
-    let z : b + suc v ≡ suc b + v = omega arith in
-    rw z (below-at (suc b) gs (and-right (isDff g || allBelow b (g .ins)) _ h) v (le-of-suc-le-suc l) d)
-
-below-all : (b : ℕ) (gs : List Gate) → ((v : ℕ) → v < length gs → isDff (getD gs v noGate) ≡ false → allBelow (b + v) (getD gs v noGate .ins) ≡ true) → sortedFrom b gs ≡ true
-unfolding sortedFrom
-below-all b [] h = refl
-below-all b (g ∷ gs) h =
-    and-both (isDff g || allBelow b (g .ins)) _
-    (by-bool (isDff g) (λ d. rw d) (λ d. rw d (let z : b + 0 ≡ b = omega arith in rw z at (h 0 (omega arith) d))))
-    (below-all (suc b) gs (λ v l d. let z : b + suc v ≡ suc b + v = omega arith in rw z at (h (suc v) (omega arith) d)))
-
 -- a combinational gate of a sorted network names what stands before it
 pub sorted-ins : (N : Net) → wired N ≡ true → isTopoSorted N ≡ true → (v : ℕ) → v < size N → isDff (gateAt N v) ≡ false → All (Here (N .inputs) v) (gateAt N v .ins)
-unfolding isTopoSorted
 sorted-ins N w t v l d =
-    let z : 0 + v ≡ v = omega arith in
-    all-less (N .inputs) (size N) v (gateAt N v .ins) (wired-ins N w v l) (rw z at (below-at 0 (N .nodes) t v l d))
+    let ins = gateAt N v .ins in
+    all-map ins (λ s p. here-less (N .inputs) (size N) v s (p .0) (p .1))
+    (all-both (Here (N .inputs) (size N)) (Names (λ m. m < v)) ins (wired-ins N w v l) (sorted N t v l d))
 
 pub sorted-all : (N : Net) → ((v : ℕ) → v < size N → isDff (gateAt N v) ≡ false → All (Here (N .inputs) v) (gateAt N v .ins)) → isTopoSorted N ≡ true
-unfolding isTopoSorted
-sorted-all N h = below-all 0 (N .nodes) (λ v l d. let z : 0 + v ≡ v = omega arith in rw z (all-below (N .inputs) v (gateAt N v .ins) (h v l d)))
+sorted-all N h = sorted-test N (λ v l d. all-map (gateAt N v .ins) (λ s p m e. here-node (N .inputs) v s m p e) (h v l d))

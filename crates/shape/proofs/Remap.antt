@@ -3,24 +3,21 @@ use mathlib.Core.Path.{_≡_, refl, sym, ap, _∙_}
 use Prim.Native.Nat.{ℕ, zero, suc, _+_, _≤_, _<_}
 use native.Mathlib.Nat.{not-suc-le-zero, le-of-suc-le-suc}
 use native.Mathlib.Omega.{arith}
-use mathlib.Core.Bool.{Bool, true, false, _&&_}
+use mathlib.Core.Bool.{true, false}
 use mathlib.Core.List.{List, [], _∷_, map}
 use lib.ListN.{length, getD, set, length-map, length-set, replicate, length-replicate}
 use lib.Seq.{getD-set-same, getD-set-other}
-use lib.Dec.{ltb}
-use borrow.Author.Tests.{lt-ltb}
-use Rattle.laws.specs.Bools.{xor}
 use Rattle.laws.specs.Lists.{All, Fresh, Distinct}
-use Rattle.laws.proofs.Lists.{all-map, all-at, all-of, getD-map-in}
-use Rattle.laws.proofs.Bools.{and-left, and-right, and-both}
-use Rattle.model.specs.Signal.{Ref, rzero, rnode, rinput, ref, wordOf, isInverted, flip, fromVar, remapOrder, remapRef}
-use Rattle.model.specs.Gate.{Gate, Net, isDff, remapGate, noGate, gateAt, size, shaped, allShaped, fanin, combs, namedRef, named, allNamed, gatesNamed, wired, Valid}
+use Rattle.laws.proofs.Lists.{all-map, all-both, all-at, map-all, getD-map-in}
+use Rattle.model.specs.Signal.{ref, fromVar, remapOrder}
+use Rattle.model.specs.Gate.{Gate, Net, isDff, remapGate, noGate, gateAt, size, allShaped, fanin, combs, wired, Valid}
 use Rattle.model.specs.Network.{isD, has, fill, translation, remap}
-use Rattle.model.proofs.Words.{flip-ref, node-ref}
-use Rattle.model.proofs.Names.{Names, In, node-names, in-remap, Sorted, wired-gate, wired-outs}
+use Rattle.model.proofs.Words.{node-ref}
+use Rattle.model.proofs.Names.{Names, In, node-names, in-remap, Sorted}
 use Rattle.shape.specs.Forms.{Ranked, Kept, Before, Order, Topo}
-use Rattle.shape.proofs.Sums.{bit-le, sumList, list-map, list-sum, fanin-total, combOf, combs-total, sum-distinct, length-distinct}
+use Rattle.shape.proofs.Sums.{sumList, list-map, list-sum, fanin-total, combOf, combs-total, sum-distinct, length-distinct}
 use Rattle.shape.proofs.Members.{fresh-of}
+use Rattle.shape.proofs.Named.{Here, here-through, here-var, shaped-all, shaped-at, shaped-remap, wired-all, wired-ins, wired-outs}
 
 -- ---- the translation
 
@@ -52,63 +49,6 @@ translation-kept n order distinct bound v k =
     ap (λ x. getD (fill (replicate n 0) 0 order) x 0) (sym (k .2))
     ∙ fill-at order (replicate n 0) 0 (k .0) distinct (rw length-replicate bound) (k .1)
     ∙ ap fromVar (omega arith)
-
--- ---- shapes and names, gate by gate
-
-shaped-at : (gs : List Gate) → allShaped gs ≡ true → All (λ g. shaped g ≡ true) gs
-unfolding allShaped
-shaped-at [] h = tt
-shaped-at (g ∷ gs) h = (and-left (shaped g) (allShaped gs) h, shaped-at gs (and-right (shaped g) (allShaped gs) h))
-
-at-shaped : (gs : List Gate) → All (λ g. shaped g ≡ true) gs → allShaped gs ≡ true
-unfolding allShaped
-at-shaped [] h = refl
-at-shaped (g ∷ gs) h = and-both (shaped g) (allShaped gs) (h .0) (at-shaped gs (h .1))
-
-shaped-remap : (τ : ℕ → ℕ) (g : Gate) → shaped g ≡ true → shaped (remapGate τ g) ≡ true
-unfolding shaped
-shaped-remap τ g e = rw (length-map (g .ins) (remapOrder τ)) e
-
-named-gates : (i n : ℕ) (gs : List Gate) → All (λ g. allNamed i n (g .ins) ≡ true) gs → gatesNamed i n gs ≡ true
-unfolding gatesNamed
-named-gates i n [] h = refl
-named-gates i n (g ∷ gs) h = and-both (allNamed i n (g .ins)) (gatesNamed i n gs) (h .0) (named-gates i n gs (h .1))
-
-flip-le : (s : ℕ) (b : Bool) → flip s b ≤ s + 1
-unfolding flip wordOf
-flip-le s b = omega (arith, bit-le (xor (isInverted s) b))
-
--- a signal put through a translation that takes what it names to a node below m
-abbrev To : (ℕ → ℕ) → ℕ → ℕ → Type 0
-To τ m v = (j : ℕ) × (j < m) × (τ v ≡ fromVar j)
-
-named-remap : (τ : ℕ → ℕ) (i n m s : ℕ) → m < 1073741824 → named i n s ≡ true → Names (To τ m) s → named i m (remapOrder τ s) ≡ true
-unfolding named remapOrder
-named-remap τ i n m s small h t = go (ref s) refl
-  where
-    word : ltb s 4294967296 ≡ true
-    word = and-left (ltb s 4294967296) (namedRef i n (ref s)) h
-
-    go : (r : Ref) → ref s ≡ r → (ltb (remapRef τ r s) 4294967296 && namedRef i m (ref (remapRef τ r s))) ≡ true
-    go rzero e = and-both _ _ word (ap (namedRef i m) e)
-    go (rnode w) e =
-        let j = t w e .0 in
-        let l = t w e .1 in
-        let q : τ w ≡ fromVar j = t w e .2 in
-        and-both _ _
-        (lt-ltb (flip (τ w) (isInverted s)) 4294967296 (omega (arith, flip-le (τ w) (isInverted s))))
-        (ap (namedRef i m) (flip-ref (τ w) (isInverted s) ∙ ap ref q ∙ node-ref j (omega arith)) ∙ lt-ltb j m l)
-    go (rinput k) e =
-        and-both _ _ word
-        (ap (namedRef i m) e ∙ sym (ap (namedRef i n) e) ∙ and-right (ltb s 4294967296) (namedRef i n (ref s)) h)
-
-list-remap : (τ : ℕ → ℕ) (i n m : ℕ) (l : List ℕ) → m < 1073741824 → allNamed i n l ≡ true → In (To τ m) l → allNamed i m (map (remapOrder τ) l) ≡ true
-unfolding allNamed
-list-remap τ i n m [] small h t = refl
-list-remap τ i n m (s ∷ l) small h t =
-    and-both _ _
-    (named-remap τ i n m s small (and-left (named i n s) (allNamed i n l) h) (t .0))
-    (list-remap τ i n m l small (and-right (named i n s) (allNamed i n l) h) (t .1))
 
 -- ---- a network by an order of its nodes
 
@@ -205,36 +145,33 @@ module _ (N : Net) (order : List ℕ) where
         )
 
     -- valid, where the source is
-    to-kept : (m : ℕ) → Kept order m → To τ (size (remap order N)) m
-    to-kept m k = (k .0, (let l = k .1 in omega (arith, remap-size)), τ-at m k)
-
     remap-shaped : allShaped (N .nodes) ≡ true → allShaped (remap order N .nodes) ≡ true
-    remap-shaped h =
-        at-shaped (remap order N .nodes)
-        (all-of (λ g. shaped g ≡ true) (remap order N .nodes) noGate
-        (λ j l.
+    remap-shaped h = shaped-all (remap order N .nodes) (λ j l.
         let l′ : j < length order = omega (arith, remap-size) in
         rw (remap-gate j l′)
-        (shaped-remap τ (gateAt N (getD order j 0))
-        (all-at (λ g. shaped g ≡ true) (N .nodes) noGate (shaped-at (N .nodes) h) (getD order j 0) (all-at (λ o. o < size N) order 0 (O .bound) j l′)))))
+        (shaped-remap τ (gateAt N (getD order j 0)) ∙ shaped-at (N .nodes) h (getD order j 0) (all-at (λ o. o < size N) order 0 (O .bound) j l′)))
 
-    remap-wired : size N < 1073741824 → wired N ≡ true → wired (remap order N) ≡ true
-    unfolding wired remap
-    remap-wired small w =
-        and-both _ _
-        (named-gates (N .inputs) (size (remap order N)) (remap order N .nodes)
-        (all-of (λ g. allNamed (N .inputs) (size (remap order N)) (g .ins) ≡ true) (remap order N .nodes) noGate
-        (λ j l.
-        let l′ : j < length order = omega (arith, remap-size) in
-        rw (remap-gate j l′)
-        (list-remap τ (N .inputs) (size N) (size (remap order N)) (gateAt N (getD order j 0) .ins) few
-        (wired-gate N w (getD order j 0) (all-at (λ o. o < size N) order 0 (O .bound) j l′))
-        (all-map (gateAt N (getD order j 0) .ins) (λ s p m q. to-kept m (p m q)) (O .ins (getD order j 0) (j, l′, refl)))))))
-        (list-remap τ (N .inputs) (size N) (size (remap order N)) (N .outs) few (wired-outs N w)
-        (all-map (N .outs) (λ s p m q. to-kept m (p m q)) (O .outs)))
-      where
-        few : size (remap order N) < 1073741824
-        few = omega (arith, remap-size, order-length)
+    module _ (few : size N ≤ 512) (w : wired N ≡ true) where
+      kept-here : (v : ℕ) → Kept order v → Here (N .inputs) (size (remap order N)) (τ v)
+      kept-here v k =
+          let l = k .1 in
+          rw (τ-at v k) (here-var (N .inputs) (size (remap order N)) (k .0) (omega (arith, remap-size)) (omega (arith, remap-size, order-length)))
+
+      list-here : (l : List ℕ) → In (Kept order) l → All (Here (N .inputs) (size N)) l → All (Here (N .inputs) (size (remap order N))) (map (remapOrder τ) l)
+      list-here l k h =
+          map-all (Here (N .inputs) (size (remap order N))) (remapOrder τ) l
+          (λ s p. here-through τ (N .inputs) (size N) (size (remap order N)) s (λ v e. kept-here v (p .0 v e)) (p .1))
+          (all-both (Names (Kept order)) (Here (N .inputs) (size N)) l k h)
+
+      remap-wired : wired (remap order N) ≡ true
+      remap-wired =
+          wired-all (remap order N)
+          (λ j l.
+          let l′ : j < length order = omega (arith, remap-size) in
+          let o = getD order j 0 in
+          rw (remap-inputs, remap-gate j l′)
+          (list-here (gateAt N o .ins) (O .ins o (j, l′, refl)) (wired-ins N w o (all-at (λ x. x < size N) order 0 (O .bound) j l′))))
+          (rw (remap-inputs, remap-outs) (list-here (N .outs) (O .outs) (wired-outs N w)))
 
     pub remap-valid : Valid N → Valid (remap order N)
     remap-valid A = record {
@@ -243,5 +180,5 @@ module _ (N : Net) (order : List ℕ) where
       outs-few = rw (remap-outs, length-map (N .outs) (remapOrder τ)) (A .outs-few);
       gates-shaped = remap-shaped (A .gates-shaped);
       ins-few = let n = A .ins-few in omega (arith, remap-fanin);
-      signals = remap-wired (let n = A .nodes-few in omega arith) (A .signals);
+      signals = remap-wired (A .nodes-few) (A .signals);
     }
