@@ -1,7 +1,7 @@
 -- Laws of a claim of every element, of lists without repeats, of a mapped list, of a test of some number, of a list by its length.
 use mathlib.Core.Path.{_≡_, refl, sym, ap, fun-ext}
 use mathlib.Core.Logic.{_≢_}
-use Prim.Native.Nat.{ℕ, zero, suc, _<_, suc-le-suc, zero-le}
+use Prim.Native.Nat.{ℕ, zero, suc, _≤_, _<_, suc-le-suc, zero-le}
 use native.Mathlib.Nat.{not-suc-le-zero, le-of-suc-le-suc}
 use native.Mathlib.Omega.{arith}
 use native.Mathlib.Decide.{ℕ-discrete}
@@ -89,6 +89,12 @@ pub some-ext : (f g : ℕ → Bool) (n : ℕ) → ((k : ℕ) → k < n → f k �
 unfolding someBelow
 some-ext f g zero h = refl
 some-ext f g (suc n) h = rw (some-ext f g n (λ k l. h k (omega arith)), h n (omega arith))
+
+-- ---- a list by its length
+
+pub length-none : {A : Type 0} (l : List A) → length l ≤ 0 → l ≡ []
+length-none [] h = refl
+length-none (x ∷ l) h = absurd (not-suc-le-zero h)
 
 -- a list of one, two or three
 module _ {ℓ} {A : Type 0} (P : List A → Type ℓ) where

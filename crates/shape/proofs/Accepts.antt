@@ -12,7 +12,7 @@ use Rattle.model.specs.Gate.{Gate, Net, Valid, size, shaped, allShaped, fanin, 
 use Rattle.model.specs.Image.{headerOk, codeAt, countAt, sizeAt, soundAt, soundFrom, netOf, refusalOf, sortedRefusalOf, gateWords, gatesWords, imageOf}
 use Rattle.shape.proofs.Walks.{sounds-drop}
 use Rattle.shape.proofs.Shaped.{kind-small, shaped-code, shaped-table, first-shaped, rest-shaped}
-use Rattle.shape.proofs.Written.{header-back, size-back, table-back, end-back, trailer, length-image, inputs-written, nodes-written, outs-written, span-written, words-written, net-of-image}
+use Rattle.shape.proofs.Written.{words-cons, header-back, size-back, table-back, end-back, trailer, length-image, inputs-written, nodes-written, outs-written, span-written, words-written, net-of-image}
 use Rattle.shape.proofs.Accepted.{LaidOut, Accepted, accepts, accepts-sorted}
 
 -- ---- the records of gates are sound
@@ -31,10 +31,6 @@ sound-none ws at = refl
 sound-suc : (k : ℕ) (ws : List ℕ) (at : ℕ) → soundFrom (suc k) ws at ≡ (soundAt ws at && soundFrom k ws (at + sizeAt ws at))
 unfolding soundFrom
 sound-suc k ws at = refl
-
-words-cons : (g : Gate) (gs : List Gate) → gatesWords (g ∷ gs) ≡ gateWords g ++ gatesWords gs
-unfolding gatesWords
-words-cons g gs = refl
 
 fanin-cons : (g : Gate) (gs : List Gate) → fanin (g ∷ gs) ≡ length (g .ins) + fanin gs
 unfolding fanin

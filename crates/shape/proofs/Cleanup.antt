@@ -2,20 +2,20 @@
 use mathlib.Core.Path.{_≡_, refl, sym, ap, _∙_}
 use mathlib.Core.Logic.{_⊎_, inl, inr}
 use Prim.Native.Nat.{ℕ, zero, suc, _≤_, _<_}
-use native.Mathlib.Nat.{not-suc-le-zero, le-refl}
+use native.Mathlib.Nat.{le-refl}
 use native.Mathlib.Omega.{arith}
 use native.Mathlib.Decide.{ℕ-discrete}
-use mathlib.Core.Bool.{true, false, cond}
+use mathlib.Core.Bool.{true, false}
 use mathlib.Core.List.{List, [], _∷_}
 use lib.ListN.{length, getD, length-append}
 use Rattle.laws.specs.Lists.{All}
-use Rattle.laws.proofs.Lists.{all-map, all-at, all-append, all-both}
+use Rattle.laws.proofs.Lists.{all-map, all-at, all-append, all-both, length-none}
 use Rattle.laws.proofs.Choices.{by-bool, clash}
 use Rattle.model.specs.Gate.{Net, gateAt, size, fanin, combs, wired, isTopoSorted, Valid}
-use Rattle.model.specs.Network.{vars, deps, has, upd, Reach, out, through, Walk, goAt, stepAt, walk, firstWalk, unseen, walkLeft, seen, cleanupOrder, cleanup, translation}
+use Rattle.model.specs.Network.{vars, deps, has, Reach, out, through, Walk, goAt, stepAt, walk, firstWalk, walkLeft, seen, cleanupOrder, cleanup, translation}
 use Rattle.model.proofs.Names.{Names, sorted, sorted-test}
 use Rattle.shape.specs.Forms.{Inside, OutsInside, Kept, Order, Topo}
-use Rattle.shape.proofs.Sums.{upd-same, upd-other, sum-update}
+use Rattle.shape.proofs.Sums.{upd-same, upd-other, unseen-visit}
 use Rattle.shape.proofs.Members.{has-left, has-right, has-tail, has-index, all-has, has-all, rising-all, rising-bound, rising-has, rising-distinct, rising-index}
 use Rattle.shape.proofs.Wires.{vars-in, wired-inside, wired-outs-inside}
 use Rattle.shape.proofs.Remap.{translation-removed, remap-size, remap-sorted, remap-fanin, remap-combs, remap-valid}
@@ -83,15 +83,9 @@ module _ (N : Net) where
               arith,
               ap length q,
               length-append (deps N v) r,
-              sum-update (unseen N (w .vis)) (unseen N (upd (w .vis) v true)) v (size N) ((rw q at (I .stack)) .0 .1) (λ u y. ap (λ b. cond b 0 (length (deps N u))) (sym (upd-other (w .vis) v true u y))),
-              ap (λ b. cond b 0 (length (deps N v))) e,
-              ap (λ b. cond b 0 (length (deps N v))) (upd-same (w .vis) v true),
+              unseen-visit N (w .vis) v ((rw q at (I .stack)) .0 .1) e,
             )),
           ))
-
-  len-nil : (l : List ℕ) → length l ≤ 0 → l ≡ []
-  len-nil [] h = refl
-  len-nil (x ∷ l) h = absurd (not-suc-le-zero h)
 
   pub stay : (f : ℕ) (w : Walk) → w .stk ≡ [] → walk N f w ≡ w
   unfolding walk
@@ -101,7 +95,7 @@ module _ (N : Net) where
   -- with turns for all the work left, the list of those to visit runs empty
   finish : Inside N → (f : ℕ) (w : Walk) → K w → walkLeft N w ≤ f → K (walk N f w) × (walk N f w .stk ≡ [])
   unfolding walk
-  finish inside zero w I h = (I, len-nil (w .stk) (omega arith))
+  finish inside zero w I h = (I, length-none (w .stk) (omega arith))
   finish inside (suc f) w I h =
       let t = turn inside w I in
       elim (t .1) [

@@ -12,13 +12,13 @@ use lib.Dec.{eqb}
 use borrow.Author.Tests.{eq-eqb, ne-eqb, eqb-true}
 use Rattle.laws.specs.Bools.{bit}
 use Rattle.laws.specs.Lists.{All, Distinct}
-use Rattle.laws.proofs.Lists.{all-map}
+use Rattle.laws.proofs.Lists.{all-map, length-none}
 use Rattle.laws.proofs.Bools.{and-right}
 use Rattle.laws.proofs.Choices.{by-bool, clash}
 use Rattle.model.specs.Gate.{Net, size}
-use Rattle.model.specs.Network.{isD, deps, has, occ, sumTo, upd, pushIf, Search, Down, down, popAt, nextAt, search, waits, users, descend, begin, unseen, searchLeft, sortResult}
+use Rattle.model.specs.Network.{isD, deps, has, occ, sumTo, upd, pushIf, Search, Down, down, popAt, nextAt, search, waits, users, descend, begin, searchLeft, sortResult}
 use Rattle.shape.specs.Forms.{Inside}
-use Rattle.shape.proofs.Sums.{upd-same, upd-other, bit-is, bit-isnt, sum-update, sum-none, sum-zero}
+use Rattle.shape.proofs.Sums.{upd-same, upd-other, bit-is, bit-isnt, sum-update, unseen-visit, sum-none, sum-zero}
 use Rattle.shape.proofs.Members.{has-head, has-cons, has-tail, has-push, has-false, occ-has, has-occ}
 
 -- ---- counting down: what is left is `base`
@@ -209,15 +209,9 @@ module _ (N : Net) where
               arith,
               ap length q,
               down-length (deps N v) (s .cnt) r,
-              sum-update (unseen N (s .vis)) (unseen N (upd (s .vis) v true)) v (size N) ((rw q at (I .zeros)) .0 .1) (λ u y. ap (λ b. cond b 0 (length (deps N u))) (sym (upd-other (s .vis) v true u y))),
-              ap (λ b. cond b 0 (length (deps N v))) e,
-              ap (λ b. cond b 0 (length (deps N v))) (upd-same (s .vis) v true),
+              unseen-visit N (s .vis) v ((rw q at (I .zeros)) .0 .1) e,
             )),
           ))
-
-  len-nil : (l : List ℕ) → length l ≤ 0 → l ≡ []
-  len-nil [] h = refl
-  len-nil (x ∷ l) h = absurd (not-suc-le-zero h)
 
   pub stay : (f : ℕ) (s : Search) → s .stk ≡ [] → search N f s ≡ s
   unfolding search
@@ -227,7 +221,7 @@ module _ (N : Net) where
   -- with turns for all the work left, the stack runs empty
   finish : Inside N → (f : ℕ) (s : Search) → J s → searchLeft N s ≤ f → J (search N f s) × (search N f s .stk ≡ [])
   unfolding search
-  finish inside zero s I h = (I, len-nil (s .stk) (omega arith))
+  finish inside zero s I h = (I, length-none (s .stk) (omega arith))
   finish inside (suc f) s I h =
       let t = turn inside s I in
       elim (t .1) [

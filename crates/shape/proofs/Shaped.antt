@@ -1,10 +1,10 @@
 -- What a gate's shape says: its code, its inputs and its table in numbers.
 use mathlib.Core.Path.{_≡_, refl, sym, ap, _∙_}
 use mathlib.Core.Bool.{true, false, false≢true}
-use mathlib.Core.List.{List, [], _∷_}
-use Prim.Native.Nat.{ℕ, zero, suc, _^_, _≤_, _<_}
+use mathlib.Core.List.{List, _∷_}
+use Prim.Native.Nat.{ℕ, _^_, _≤_, _<_}
 use native.Mathlib.Omega.{arith}
-use lib.ListN.{length, getD}
+use lib.ListN.{length}
 use lib.Pow.{pow-mono}
 use lib.Dec.{ltb}
 use borrow.Author.Tests.{ltb-true, leb-true, eqb-true}
@@ -13,7 +13,7 @@ use Rattle.kinds.specs.Kinds.{codeOf, kindOf, isFlipFlop}
 use Rattle.kinds.proofs.Codes.{kind-code, code-kind}
 use Rattle.kinds.specs.declared.Kind.{Kind}
 use Rattle.kinds.specs.declared.Kind.the-variants.{And2, Xor2, And3, Xor3, Maj, Mux, AndN, OrN, NandN, NorN, XorN, XnorN, Buf, Dff, Lut}
-use Rattle.model.specs.Gate.{Gate, noGate, isDff, isLut, fitsKind, fitsCode, fitsTable, shaped, allShaped}
+use Rattle.model.specs.Gate.{Gate, isDff, isLut, fitsKind, fitsCode, fitsTable, shaped, allShaped}
 
 pub code-small : (code n : ℕ) → fitsCode code n ≡ true → code < 15
 unfolding fitsCode
@@ -63,11 +63,6 @@ module _ (g : Gate) (gs : List Gate) (s : allShaped (g ∷ gs) ≡ true) where
   pub rest-shaped : allShaped gs ≡ true
   unfolding allShaped
   rest-shaped = and-right (shaped g) (allShaped gs) s
-
-pub each-shaped : (gs : List Gate) → allShaped gs ≡ true → (v : ℕ) → v < length gs → shaped (getD gs v noGate) ≡ true
-each-shaped [] s v l = absurd (omega arith)
-each-shaped (g ∷ gs) s zero l = first-shaped g gs s
-each-shaped (g ∷ gs) s (suc v) l = each-shaped gs (rest-shaped g gs s) v (omega arith)
 
 -- ---- flip-flops
 

@@ -11,6 +11,7 @@ use Rattle.model.specs.Gate.{Gate, Net, Valid, size, isLut, shaped, allShaped, 
 use Rattle.model.specs.Image.{Bytes, Words32, tableWords, gateWords, gatesWords, bodyWords, netWords, imageOf}
 use Rattle.model.proofs.Bytes.{words-append, words-cons, words-nil, bytes-small}
 use Rattle.model.proofs.Named.{named-words}
+use Rattle.model.proofs.Names.{wired-outs}
 use Rattle.shape.proofs.Shaped.{kind-small, table-two, first-shaped, rest-shaped}
 use Rattle.shape.proofs.Written.{trailer, length-image}
 
@@ -69,10 +70,6 @@ module _ (n : Net) (v : Valid n) where
   unfolding wired
   gates-wired = and-left (gatesNamed (n .inputs) (size n) (n .nodes)) (allNamed (n .inputs) (size n) (n .outs)) (v .signals)
 
-  outs-wired : allNamed (n .inputs) (size n) (n .outs) ≡ true
-  unfolding wired
-  outs-wired = and-right (gatesNamed (n .inputs) (size n) (n .nodes)) (allNamed (n .inputs) (size n) (n .outs)) (v .signals)
-
   trailer-words : Words32 (trailer n)
   trailer-words =
       let d = 4 * (length (bodyWords n) + 4) in
@@ -90,7 +87,7 @@ module _ (n : Net) (v : Valid n) where
       words-append (gatesWords (n .nodes) ++ n .outs) (trailer n)
       (words-append (gatesWords (n .nodes)) (n .outs)
       (gates-words (n .inputs) (size n) (n .nodes) (v .gates-shaped) (v .ins-few) gates-wired)
-      (named-words (n .inputs) (size n) (n .outs) outs-wired))
+      (named-words (n .inputs) (size n) (n .outs) (wired-outs n (v .signals))))
       trailer-words
 
   pub bytes-image : Bytes (imageOf n)

@@ -5,15 +5,15 @@ use Prim.Native.Nat.{ℕ, zero, suc, _+_, _≤_, _<_, zero-le}
 use native.Mathlib.Nat.{not-suc-le-zero, le-refl}
 use native.Mathlib.Omega.{arith}
 use native.Mathlib.Decide.{ℕ-discrete}
-use mathlib.Core.Bool.{Bool, true, false, not}
+use mathlib.Core.Bool.{Bool, true, false, not, cond}
 use mathlib.Core.List.{List, [], _∷_, _++_, map}
 use lib.ListN.{length, getD}
 use lib.Dec.{eqb}
 use borrow.Author.Tests.{eq-eqb, ne-eqb}
 use Rattle.laws.specs.Bools.{bit}
 use Rattle.laws.specs.Lists.{All, Fresh, Distinct}
-use Rattle.model.specs.Gate.{Gate, isDff, fanin, combs}
-use Rattle.model.specs.Network.{sumTo, upd}
+use Rattle.model.specs.Gate.{Gate, Net, isDff, size, fanin, combs}
+use Rattle.model.specs.Network.{deps, sumTo, unseen, upd}
 
 -- ---- a function with one value changed
 
@@ -169,3 +169,16 @@ sum-distinct n f (x ∷ l) d a =
 -- so there are at most n of them
 pub length-distinct : (n : ℕ) (l : List ℕ) → Distinct l → All (λ x. x < n) l → length l ≤ n
 length-distinct n l d a = omega (arith, sum-distinct n (λ x. 1) l d a, list-ones l, sum-ones (λ x. 1) n (λ u h. refl))
+
+-- ---- a node visited has its signals no more to come
+
+pub unseen-visit : (N : Net) (vis : ℕ → Bool) (v : ℕ) → v < size N → vis v ≡ false
+    → sumTo (unseen N (upd vis v true)) (size N) + length (deps N v) ≡ sumTo (unseen N vis) (size N)
+unseen-visit N vis v l e =
+    let f : Bool → ℕ = λ b. cond b 0 (length (deps N v)) in
+    omega (
+      arith,
+      sum-update (unseen N vis) (unseen N (upd vis v true)) v (size N) l (λ u y. ap (λ b. cond b 0 (length (deps N u))) (sym (upd-other vis v true u y))),
+      ap f e,
+      ap f (upd-same vis v true),
+    )

@@ -1,7 +1,7 @@
 -- Each test of the model tells its line: 2 to 5.
-use mathlib.Core.Path.{_≡_, refl, sym, _∙_}
+use mathlib.Core.Path.{_≡_, refl}
 use mathlib.Core.Logic.{⊎-elim}
-use mathlib.Core.Bool.{Bool, true, false, _&&_, false≢true}
+use mathlib.Core.Bool.{Bool, true, false, _&&_}
 use mathlib.Core.List.{List}
 use Prim.Native.Nat.{ℕ, zero, suc, _+_, _/_, _%_, _^_, _≤_, _<_}
 use native.Mathlib.Omega.{arith}
@@ -9,7 +9,7 @@ use lib.ListN.{length, getD}
 use lib.Dec.{eqb, leb, ltb}
 use borrow.Author.Tests.{ltb-true, ltb-false, leb-true, leb-false, eqb-true, eqb-false, lt-ltb, le-leb, eq-eqb}
 use Rattle.laws.proofs.Bools.{and-left, and-right, and-both, and-split}
-use Rattle.laws.proofs.Choices.{by-bool}
+use Rattle.laws.proofs.Choices.{by-bool, clash}
 use Rattle.kinds.specs.Kinds.{codeOf, kindOf}
 use Rattle.kinds.proofs.Codes.{code-kind}
 use Rattle.kinds.specs.declared.Kind.{Kind}
@@ -24,9 +24,6 @@ use Rattle.shape.proofs.Accepted.{Framed, framed-is, Within, within-is,
 pub record Tells (b : Bool) (L : Type 0) : Type 0 where
   pub clear : b ≡ true → ¬ L
   pub met : b ≡ false → L
-
-pub clash : {X : Type 0} {b : Bool} → b ≡ true → b ≡ false → X
-clash p q = absurd (false≢true (sym q ∙ p))
 
 -- ---- 2 and 3
 

@@ -1,27 +1,31 @@
 -- Each test of the model tells its line: 6 and 7.
-use mathlib.Core.Path.{_≡_, refl, sym, ap, _∙_}
+use mathlib.Core.Path.{_≡_, refl, sym, ap, subst, _∙_}
 use mathlib.Core.Logic.{inl, inr, ⊎-elim}
 use mathlib.Core.Bool.{Bool, true, false, _&&_, _||_}
 use mathlib.Core.List.{List, [], _∷_}
-use Prim.Native.Nat.{ℕ, zero, suc, _+_, _-_, _/_, _%_, _≤_, _<_}
+use Prim.Native.Nat.{ℕ, suc, _+_, _-_, _/_, _%_, _≤_, _<_}
 use native.Mathlib.Omega.{arith}
 use native.Mathlib.Nat.{add-zero}
 use native.Mathlib.Decide.{ℕ-discrete, decLt}
 use lib.ListN.{length, getD}
-use borrow.Author.Tests.{ltb-true, ltb-false, lt-ltb, le-ltb}
-use Rattle.laws.proofs.Bools.{and-left, and-right, and-split, or-left, or-right}
-use Rattle.laws.proofs.Choices.{by-bool}
+use borrow.Author.Tests.{ltb-true, ltb-false, lt-ltb}
+use Rattle.laws.proofs.Bools.{and-split, or-left, or-right}
+use Rattle.laws.specs.Lists.{All}
+use Rattle.laws.proofs.Choices.{by-bool, clash}
+use Rattle.laws.proofs.Lists.{all-at}
 use Rattle.model.specs.Signal.{Ref, rzero, rnode, rinput, ref, fromVar, fromInput}
 use Rattle.model.specs.Gate.{Gate, Net, size, gateAt, noGate, isDff, shaped, namedRef, named, allNamed, gatesNamed, wired, belowRef, allBelow, sortedFrom, isTopoSorted}
 use Rattle.model.specs.Image.{inputsIn, nodesIn, wordsOf, netIn, netOf}
 use Rattle.model.proofs.Words.{constant-ref, var-ref, input-ref}
 use Rattle.model.proofs.Named.{named-word, named-ref, named-of}
+use Rattle.model.proofs.Names.{Names, sorted}
 use Rattle.shape.specs.Lines.{Spells, Present, constant, node, input, In, SignalOf, gate-input, output, Line6, Line7}
+use Rattle.shape.proofs.Named.{Here, shaped-at, wired-ins, wired-outs}
 use Rattle.shape.proofs.Walks.{length-gates}
 use Rattle.shape.proofs.Accepted.{Within, Accepted}
-use Rattle.shape.proofs.Shaped.{each-shaped, dff-kind, kind-dff}
+use Rattle.shape.proofs.Shaped.{dff-kind, kind-dff}
 use Rattle.shape.proofs.Valids.{valid-accepted}
-use Rattle.shape.proofs.Told.{Tells, clash}
+use Rattle.shape.proofs.Told.{Tells}
 
 -- ---- a signal's word
 
@@ -73,13 +77,8 @@ record Fails {A : Type 0} (t : A → Bool) (l : List A) (d : A) : Type 0 where
   inside : place < length l
   fails : t (getD l place d) ≡ false
 
--- a test of every element, by a test of one
+-- a test of every element that fails, fails at one
 module _ {A : Type 0} (d : A) (t : A → Bool) (all : List A → Bool) (nil : all [] ≡ true) (cons : (x : A) (l : List A) → all (x ∷ l) ≡ (t x && all l)) where
-  each-one : (l : List A) → all l ≡ true → (k : ℕ) → k < length l → t (getD l k d) ≡ true
-  each-one [] e k m = absurd (omega arith)
-  each-one (x ∷ l) e zero m = and-left (t x) (all l) (sym (cons x l) ∙ e)
-  each-one (x ∷ l) e (suc k) m = each-one l (and-right (t x) (all l) (sym (cons x l) ∙ e)) k (omega arith)
-
   some-one : (l : List A) → all l ≡ false → Fails t l d
   some-one [] e = clash nil e
   some-one (x ∷ l) e =
@@ -89,6 +88,10 @@ module _ {A : Type 0} (d : A) (t : A → Bool) (all : List A → Bool) (nil : al
       let r = some-one l a in
       record { place = suc (r .place); inside = let k = r .inside in omega arith; fails = r .fails })
       (and-split (t x) (all l) (sym (cons x l) ∙ e))
+
+-- what holds of every element holds of one that stands in the list
+all-in : (P : ℕ → Type 0) (l : List ℕ) → All P l → (s : ℕ) → In s l → P s
+all-in P l h s m = subst P (m .there) (all-at P l 0 h (m .place) (m .inside))
 
 standing : (l : List ℕ) (k : ℕ) → k < length l → In (getD l k 0) l
 standing l k m = record { place = k; inside = m; there = refl }
@@ -110,12 +113,6 @@ module _ (i n : ℕ) where
   unfolding gatesNamed
   gates-cons g gs = refl
 
-  named-in : (l : List ℕ) → allNamed i n l ≡ true → (s : ℕ) → In s l → named i n s ≡ true
-  named-in l e s m = ap (named i n) (sym (m .there)) ∙ each-one 0 (named i n) (allNamed i n) named-nil named-cons l e (m .place) (m .inside)
-
-  named-gate : (gs : List Gate) → gatesNamed i n gs ≡ true → (v : ℕ) → v < length gs → allNamed i n (getD gs v noGate .ins) ≡ true
-  named-gate gs e v m = each-one noGate (λ g. allNamed i n (g .ins)) (gatesNamed i n) gates-nil gates-cons gs e v m
-
 -- ---- 6
 
 -- a signal of a network, and that nothing has its name
@@ -126,12 +123,8 @@ record Lost (N : Net) : Type 0 where
 
 module _ (N : Net) where
   pub wired-each : wired N ≡ true → (s : ℕ) → SignalOf N s → named (N .inputs) (size N) s ≡ true
-  unfolding wired
-  wired-each e s (gate-input v l m) =
-      named-in (N .inputs) (size N) (gateAt N v .ins)
-      (named-gate (N .inputs) (size N) (N .nodes) (and-left (gatesNamed (N .inputs) (size N) (N .nodes)) (allNamed (N .inputs) (size N) (N .outs)) e) v l) s m
-  wired-each e s (output m) =
-      named-in (N .inputs) (size N) (N .outs) (and-right (gatesNamed (N .inputs) (size N) (N .nodes)) (allNamed (N .inputs) (size N) (N .outs)) e) s m
+  wired-each e s (gate-input v l m) = all-in (Here (N .inputs) (size N)) (gateAt N v .ins) (wired-ins N e v l) s m
+  wired-each e s (output m) = all-in (Here (N .inputs) (size N)) (N .outs) (wired-outs N e) s m
 
   lost-one : wired N ≡ false → Lost N
   unfolding wired
@@ -229,22 +222,9 @@ module _ (b : ℕ) where
   unfolding allBelow
   below-cons s l = refl
 
-  below-in : (l : List ℕ) → allBelow b l ≡ true → (s : ℕ) → In s l → belowRef b (ref s) ≡ true
-  below-in l e s m =
-      ap (λ x. belowRef b (ref x)) (sym (m .there))
-      ∙ each-one 0 (λ x. belowRef b (ref x)) (allBelow b) below-nil below-cons l e (m .place) (m .inside)
-
 -- a gate is in its place: a flip-flop, or above what it names
 abbrev inPlace : ℕ → Gate → Bool
 inPlace v g = isDff g || allBelow v (g .ins)
-
-sorted-each : (gs : List Gate) (u v : ℕ) → v < length gs → sortedFrom u gs ≡ true → inPlace (u + v) (getD gs v noGate) ≡ true
-unfolding sortedFrom
-sorted-each [] u v m e = absurd (omega arith)
-sorted-each (g ∷ gs) u zero m e = rw add-zero (and-left (inPlace u g) (sortedFrom (suc u) gs) e)
-sorted-each (g ∷ gs) u (suc v) m e =
-    let q : u + suc v ≡ suc u + v = omega arith in
-    rw q (sorted-each gs (suc u) v (omega arith) (and-right (inPlace u g) (sortedFrom (suc u) gs) e))
 
 record Misplaced (u : ℕ) (gs : List Gate) : Type 0 where
   at : ℕ
@@ -265,22 +245,21 @@ misplaced-one (g ∷ gs) u e =
 
 module _ (img : List ℕ) (a : Accepted img) where
   gate-shaped : (v : ℕ) → v < nodesIn img → shaped (gateAt (netOf img) v) ≡ true
-  gate-shaped v l = each-shaped (netOf img .nodes) (valid-accepted img a .gates-shaped) v (rw (size-net img) l)
+  gate-shaped v l = shaped-at (netOf img .nodes) (valid-accepted img a .gates-shaped) v (rw (size-net img) l)
 
   sorted-clear : isTopoSorted (netOf img) ≡ true → ¬ Line7 img
-  unfolding isTopoSorted
   sorted-clear e l =
       let v = l .gate in
       let g = gateAt (netOf img) v in
-      let p : inPlace (0 + v) g ≡ true = sorted-each (netOf img .nodes) 0 v (rw (size-net img) (l .gate-is)) e in
-      let z : 0 + v ≡ v = omega arith in
       let n = l .named-is in
       let few = a .limits .nodes-few in
+      let up = l .not-below in
       let r : ref (l .signal) ≡ rnode (l .named) = spells-ref (l .signal) (l .named) (omega arith) (l .names) in
-      let b : belowRef v (ref (l .signal)) ≡ false = rw r (le-ltb (l .named) v (l .not-below)) in
       by-bool (isDff g)
       (λ d. l .combinational (dff-kind g (gate-shaped v (l .gate-is)) d))
-      (λ d. clash (below-in v (g .ins) (simp (z, d) at p) (l .signal) (l .used)) b)
+      (λ d.
+      let k = all-in (Names (λ m. m < v)) (g .ins) (sorted (netOf img) e v (rw (size-net img) (l .gate-is)) d) (l .signal) (l .used) (l .named) r in
+      omega arith)
 
   sorted-met : isTopoSorted (netOf img) ≡ false → Line7 img
   unfolding isTopoSorted

@@ -3,7 +3,7 @@ use mathlib.Core.Path.{_≡_, refl, sym, ap, _∙_}
 use Prim.Native.Nat.{ℕ, _-_, _/_, _≤_, _<_, suc-le-suc, zero-le}
 use native.Mathlib.Omega.{arith}
 use native.Mathlib.Decide.{ℕ-discrete, decLt}
-use mathlib.Core.Bool.{Bool, true, false, not, _&&_}
+use mathlib.Core.Bool.{true, false, not, and-false}
 use mathlib.Core.List.{List, [], _∷_, _++_, append-nil}
 use lib.ListN.{length}
 use lib.Dec.{ltb}
@@ -18,10 +18,6 @@ use Rattle.model.proofs.Names.{Names, In, zero-names, input-names, node-names, 
 use Rattle.shape.specs.Forms.{Below, Inside, OutsInside}
 
 -- ---- is_var
-
-and-false : (b : Bool) → b && false ≡ false
-and-false true = refl
-and-false false = refl
 
 pub var-is : (s : ℕ) → 2 ≤ s → s < 2147483648 → isVar s ≡ true
 unfolding isVar

@@ -14,10 +14,10 @@ use Rattle.model.proofs.Bytes.{words-bytes, length-bytes, getD-words}
 use Rattle.shape.proofs.Walks.{gates-drop, end-drop}
 use Rattle.shape.proofs.Shaped.{kind-small, table-none, first-shaped, rest-shaped}
 
-gate-eq : {a b : Gate} → a .kind ≡ b .kind → a .ins ≡ b .ins → a .table ≡ b .table → a ≡ b
+pub gate-eq : {a b : Gate} → a .kind ≡ b .kind → a .ins ≡ b .ins → a .table ≡ b .table → a ≡ b
 gate-eq p q r = λ i. record { kind = p i; ins = q i; table = r i }
 
-net-eq : {a b : Net} → a .inputs ≡ b .inputs → a .nodes ≡ b .nodes → a .outs ≡ b .outs → a ≡ b
+pub net-eq : {a b : Net} → a .inputs ≡ b .inputs → a .nodes ≡ b .nodes → a .outs ≡ b .outs → a ≡ b
 net-eq p q r = λ i. record { inputs = p i; nodes = q i; outs = r i }
 
 first-of : (xs : List ℕ) (a b : ℕ) (r : List ℕ) → getD ((xs ++ (a ∷ b ∷ [])) ++ r) (length xs) 0 ≡ a
@@ -94,7 +94,7 @@ end-suc : (k : ℕ) (ws : List ℕ) (at : ℕ) → endFrom (suc k) ws at ≡ end
 unfolding endFrom
 end-suc k ws at = refl
 
-words-cons : (g : Gate) (gs : List Gate) → gatesWords (g ∷ gs) ≡ gateWords g ++ gatesWords gs
+pub words-cons : (g : Gate) (gs : List Gate) → gatesWords (g ∷ gs) ≡ gateWords g ++ gatesWords gs
 unfolding gatesWords
 words-cons g gs = refl
 
