@@ -4,6 +4,7 @@ use mathlib.Core.Logic.{_⊎_, inl, inr}
 use Prim.Native.Nat.{ℕ}
 use native.Mathlib.Omega.{arith}
 use mathlib.Core.Bool.{Bool, true, false, not, _&&_, _||_, Bool·beq}
+pub use mathlib.Core.Bool.{and-assoc, and-comm, or-comm, or-true}
 use lib.Dec.{T}
 use Rattle.laws.specs.Bools.{xor}
 
@@ -22,16 +23,6 @@ xor-comm false false = refl
 xor-comm false true = refl
 xor-comm true false = refl
 xor-comm true true = refl
-
-pub and-assoc : (a b c : Bool) → (a && b) && c ≡ a && (b && c)
-and-assoc true b c = refl
-and-assoc false b c = refl
-
-pub and-comm : (a b : Bool) → a && b ≡ b && a
-and-comm true true = refl
-and-comm true false = refl
-and-comm false true = refl
-and-comm false false = refl
 
 -- the code's `^` of two, of three and of four truth values
 pub xor-is : (a b : Bool) → not (Bool·beq a b) ≡ xor a b
@@ -58,16 +49,6 @@ or-left false b e = refl
 pub or-right : (a b : Bool) → (a || b) ≡ false → b ≡ false
 or-right true b e = true-false e
 or-right false b e = e
-
-pub or-comm : (a b : Bool) → a || b ≡ b || a
-or-comm true true = refl
-or-comm true false = refl
-or-comm false true = refl
-or-comm false false = refl
-
-pub or-true : (b : Bool) → b || true ≡ true
-or-true true = refl
-or-true false = refl
 
 -- and of a conjunction that holds
 pub and-left : (a b : Bool) → (a && b) ≡ true → a ≡ true

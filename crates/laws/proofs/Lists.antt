@@ -30,6 +30,10 @@ pub all-of {ℓ} : {A : Type 0} (P : A → Type ℓ) (l : List A) (d : A) → ((
 all-of P [] d h = tt
 all-of P (x ∷ xs) d h = (h zero (suc-le-suc zero-le), all-of P xs d (λ j l. h (suc j) (suc-le-suc l)))
 
+pub all-each {ℓ} : {A : Type 0} (P : A → Type ℓ) (l : List A) → ((a : A) → P a) → All P l
+all-each P [] h = tt
+all-each P (x ∷ l) h = (h x, all-each P l h)
+
 pub all-append {ℓ} : {A : Type 0} (P : A → Type ℓ) (a b : List A) → All P a → All P b → All P (a ++ b)
 all-append P [] b x y = y
 all-append P (s ∷ a) b x y = (x .0, all-append P a b (x .1) y)

@@ -24,10 +24,10 @@ use Rattle.model.proofs.Words.{node-ref}
 use Rattle.model.proofs.Names.{Names, wired-ins}
 use Rattle.model.proofs.Forward.{shows-comb}
 use Rattle.shape.specs.Room.{roomOf}
-use Rattle.shape.proofs.Sort.{sort-valid, sort-sorted}
+use Rattle.shape.proofs.Sort.{sort-sorted}
 use Rattle.shape.proofs.FactoringEnds.{One}
 use Rattle.shape.proofs.FactoringGrown.{taken-all, ended, grown-nodes, ended-one, length-replaced, size-grown, grown-sound, valid-grown}
-use Rattle.shape.proofs.FactoringPass.{pass-room, pass-sorts}
+use Rattle.shape.proofs.FactoringPass.{pass-room, pass-grown, pass-source, pass-sorts}
 use Rattle.shape.proofs.Flatten.{inside-comb}
 use Rattle.meaning.proofs.NaryValues.{Monoid, val, unit-right}
 use Rattle.meaning.proofs.Valuations.{value-node}
@@ -184,10 +184,9 @@ module _ (f : Family) (N : Net) (ok : Valid N) (srt : isTopoSorted N ≡ true) (
   pub pass-runs : (is : List (List Bool)) → runFromZero N is ≡ runFromZero (factorGates f N) is
   unfolding factorGates
   pass-runs is =
-      let room = pass-room f N ok none in
-      let A = valid-grown f N ok room in
+      let A = pass-grown f N ok srt none in
       let S = pass-sorts f N ok srt none in
       let s = sort-solves (grown f N) A S in
-      grown-runs f N ok tidy room srt _ s allZero is
+      grown-runs f N ok tidy (pass-room f N ok none) srt _ s allZero is
       ∙ sort-runs (grown f N) A S _ s is
-      ∙ canonical-runs (topoSort (grown f N)) (sort-valid (grown f N) A S) (sort-sorted (grown f N) A S) is
+      ∙ canonical-runs (topoSort (grown f N)) (pass-source f N ok srt none) (sort-sorted (grown f N) A S) is

@@ -12,7 +12,7 @@ use Rattle.kinds.specs.declared.Kind.{Kind}
 use Rattle.kinds.specs.declared.Kind.the-variants.{And2, Xor2, And3, Xor3, Maj, Mux, AndN, OrN, NandN, NorN, XorN, XnorN, Buf, Dff, Lut}
 use Rattle.laws.specs.Bools.{xor}
 use Rattle.laws.proofs.Bools.{true-false, taut1, taut2, taut3}
-use Rattle.laws.proofs.Lists.{by-three}
+use Rattle.laws.proofs.Lists.{all-each, by-three}
 use Rattle.laws.proofs.Choices.{by-or3}
 use Rattle.model.specs.Signal.{neg, fromBool}
 use Rattle.model.specs.Gate.{Gate, isDff, fitsKind, fitsTable, shaped}
@@ -80,11 +80,7 @@ module _ (i v : ℕ → Bool) (P : ℕ → Type 0) where
 
 -- THE VALUE: under every valuation, a combinational gate's normal form has the gate's value
 pub value-of-canonical : (i v : ℕ → Bool) (g : Gate) → isDff g ≡ false → normValue i v (makeCanonical g) ≡ gateValue i v g
-value-of-canonical i v g e = canonical-ok i v (λ n. Unit) g e (all (g .ins)) .value
-  where
-    all : (l : List ℕ) → In (λ n. Unit) l
-    all [] = tt
-    all (s ∷ l) = ((λ m e. tt), all l)
+value-of-canonical i v g e = canonical-ok i v (λ n. Unit) g e (all-each (Names (λ n. Unit)) (g .ins) (λ s m q. tt)) .value
 
 -- ---- flip-flops
 

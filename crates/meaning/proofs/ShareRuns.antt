@@ -13,11 +13,10 @@ use Rattle.model.specs.Network.{has, cleanup, topoSort}
 use Rattle.model.specs.Evaluate.{runFromZero}
 use Rattle.model.specs.Sharing.{anyRepeats, factorGates, factorNary, factorRefusal, flattenNary, flattenedInputs, grown, merged, passRefusal, repeats, shareLogic, takes}
 use Rattle.shape.proofs.Members.{fresh-of}
-use Rattle.shape.proofs.Sort.{sort-valid, sort-sorted}
+use Rattle.shape.proofs.Sort.{sort-sorted}
 use Rattle.shape.proofs.Cleanup.{cleanup-valid, cleanup-sorted}
 use Rattle.shape.proofs.Flatten.{merged-sorted, merged-valid, flatten-valid, flatten-sorted}
-use Rattle.shape.proofs.FactoringGrown.{valid-grown}
-use Rattle.shape.proofs.FactoringPass.{factor-refusals, pass-room, pass-sorted, pass-sorts, pass-valid}
+use Rattle.shape.proofs.FactoringPass.{factor-refusals, pass-grown, pass-source, pass-sorted, pass-sorts, pass-valid}
 use Rattle.meaning.proofs.Tidy.{Tidy}
 use Rattle.meaning.proofs.TidyCanonical.{canonical-tidy}
 use Rattle.meaning.proofs.FlattenRuns.{flatten-runs}
@@ -46,9 +45,7 @@ repeats-tidy N h = gates-tidy (N .nodes) h
 pub pass-tidy : (e f : Family) (N : Net) → Valid N → isTopoSorted N ≡ true → passRefusal f N ≡ 0 → Tidy e (factorGates f N)
 unfolding factorGates
 pass-tidy e f N ok srt none =
-    let A = valid-grown f N ok (pass-room f N ok none) in
-    let S = pass-sorts f N ok srt none in
-    canonical-tidy e (topoSort (grown f N)) (sort-valid (grown f N) A S) (sort-sorted (grown f N) A S)
+    canonical-tidy e (topoSort (grown f N)) (pass-source f N ok srt none) (sort-sorted (grown f N) (pass-grown f N ok srt none) (pass-sorts f N ok srt none))
 
 pub flatten-tidy : (f : Family) (N : Net) (limit : ℕ) → Valid N → isTopoSorted N ≡ true → flattenedInputs N limit ≤ 2048 → Tidy f (flattenNary N limit)
 unfolding flattenNary

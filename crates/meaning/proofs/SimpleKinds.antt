@@ -26,10 +26,10 @@ use Rattle.model.specs.Network.{canonical, remap, topoOrder, sorts, topoSort}
 use Rattle.model.specs.Sharing.{inside, weight, isSimple, Pair, taken, takes, pairGate, replaced, grown, factorGates, passRefusal}
 use Rattle.shape.proofs.Sums.{bit-le}
 use Rattle.shape.proofs.Remap.{remap-size, remap-gate}
-use Rattle.shape.proofs.Sort.{sort-order, sort-valid}
+use Rattle.shape.proofs.Sort.{sort-order}
 use Rattle.shape.proofs.DedupNormal.{canonical-law, made-few, made-dff}
-use Rattle.shape.proofs.FactoringGrown.{ended, grown-nodes, length-ended, valid-grown}
-use Rattle.shape.proofs.FactoringPass.{pass-room, pass-sorts}
+use Rattle.shape.proofs.FactoringGrown.{ended, grown-nodes, length-ended}
+use Rattle.shape.proofs.FactoringPass.{pass-grown, pass-source, pass-sorts}
 use Rattle.meaning.proofs.Shapes.{gateWith, by-shape}
 use Rattle.meaning.proofs.Canonical.{Canon, canon-of-canonical}
 use Rattle.meaning.proofs.TidyCanonical.{canonical-all}
@@ -382,21 +382,15 @@ sort-all N A ok P renamed h =
     subst P (sym (remap-gate N (topoOrder N) j k)) (renamed _ _ (all-at P (N .nodes) noGate h (getD (topoOrder N) j 0) i)))
 
 module _ (f : Family) (N : Net) (A : Valid N) (t : isTopoSorted N ≡ true) (none : passRefusal f N ≡ 0) where
-  pub pass-grown : Valid (grown f N)
-  pass-grown = valid-grown f N A (pass-room f N A none)
-
-  pub pass-source : Valid (topoSort (grown f N))
-  pass-source = sort-valid (grown f N) pass-grown (pass-sorts f N A t none)
-
   pub pass-kinds : All CanonicalKind (factorGates f N .nodes)
   unfolding factorGates
-  pass-kinds = canonical-kinds (topoSort (grown f N)) pass-source
+  pass-kinds = canonical-kinds (topoSort (grown f N)) (pass-source f N A t none)
 
   grown-pairs : (e : Family) → All (λ (g : Gate). takes f g ≡ false → Pairs e g) (N .nodes) → All (Pairs e) (factorGates f N .nodes)
   unfolding factorGates kindOf
   grown-pairs e h =
-      canonical-pairs e (topoSort (grown f N)) pass-source
-      (sort-all (grown f N) pass-grown (pass-sorts f N A t none) (Pairs e) (pairs-renamed e)
+      canonical-pairs e (topoSort (grown f N)) (pass-source f N A t none)
+      (sort-all (grown f N) (pass-grown f N A t none) (pass-sorts f N A t none) (Pairs e) (pairs-renamed e)
       (grown-all f (Pairs e) (λ l q. true-false (sym q)) (λ x q. omega arith) N h))
 
   -- A PASS LEAVES two-input gates of its family

@@ -15,7 +15,7 @@ use Rattle.kinds.specs.declared.Kind.the-variants.{And2, Xor2, And3, Xor3, Maj,
 use Rattle.kinds.specs.declared.Family.{Family}
 use Rattle.laws.specs.Lists.{All, Distinct}
 use Rattle.laws.proofs.Bools.{true-false, and-left, and-right}
-use Rattle.laws.proofs.Lists.{all-at, all-of, all-append, all-map, map-all}
+use Rattle.laws.proofs.Lists.{all-each, all-at, all-append, all-map, map-all}
 use Rattle.laws.proofs.Choices.{by-bool}
 use Rattle.model.specs.Signal.{remapOrder}
 use Rattle.model.specs.Gate.{Gate, Net, Valid, isDff, remapGate, noGate, gateAt, size, fitsKind, shaped, allShaped, isTopoSorted}
@@ -127,7 +127,7 @@ canonical-several f N A t =
     (λ τ g r. tt)
     (λ g h z e r q c. family-several f h (c .fits) (c .is))
     (λ l i. true-false (sym i))
-    (all-of (λ g. Unit {0}) (N .nodes) noGate (λ j l. tt))
+    (all-each (λ g. Unit {0}) (N .nodes) (λ g. tt))
 
 -- CANONICAL NETWORKS ARE TIDY
 pub canonical-tidy : (f : Family) (N : Net) → Valid N → isTopoSorted N ≡ true → Tidy f (canonical N)

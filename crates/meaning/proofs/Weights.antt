@@ -28,9 +28,9 @@ use Rattle.shape.proofs.FactoringFuel.{TwoIn, shrinks}
 use Rattle.shape.proofs.FactoringSteps.{allPairs-keeps, consume-keeps, joins-keep}
 use Rattle.shape.proofs.FactoringEnds.{One, factoring-parts, given, paired, split-length}
 use Rattle.shape.proofs.FactoringGrown.{ended, ended-one, length-ended, grown-nodes}
-use Rattle.shape.proofs.FactoringPass.{pass-sorts}
+use Rattle.shape.proofs.FactoringPass.{pass-grown, pass-source, pass-sorts}
 use Rattle.meaning.proofs.TidyCanonical.{asked-keeps, asked-shaped}
-use Rattle.meaning.proofs.SimpleKinds.{CanonicalKind, cost, cost-leads, cost-renamed, normal-cost, pass-grown, pass-source}
+use Rattle.meaning.proofs.SimpleKinds.{CanonicalKind, cost, cost-leads, cost-renamed, normal-cost}
 
 -- ---- pairs built and signals left: together no more than the signals at the start
 

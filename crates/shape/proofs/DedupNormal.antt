@@ -16,7 +16,7 @@ use Rattle.laws.specs.Bools.{xor}
 use Rattle.laws.specs.Lists.{All}
 use Rattle.laws.proofs.Bools.{true-false, and-left, and-right}
 use Rattle.laws.proofs.Choices.{by-bool, by-eq, by-or2, by-or3, by-test}
-use Rattle.laws.proofs.Lists.{map-all}
+use Rattle.laws.proofs.Lists.{all-each, map-all}
 use Rattle.model.specs.Signal.{isInverted, wordOf, flip, neg, withoutInversion, fromBool}
 use Rattle.model.specs.Gate.{Gate, isDff, fitsCode, fitsTable, shaped}
 use Rattle.model.specs.Normal.{Norm, copied, made, gateOf, made2, made3, least, most, low3, mid3, high3, andSorted, makeAnd, xorSorted, makeXor, and3Sorted, makeAnd3, xor3Sorted, makeXor3, muxPlain, muxSelect, makeMux, majPlain, majSorted, makeMaj, makeDff, keep, without, insert, sorted, uniq, opposed, andSome, andWide, andTidy, makeAndN, cancel, xorSome, makeXorN, on1, on2, on3, normalK, makeCanonical}
@@ -407,10 +407,6 @@ Any s = Unit {0}
 any-closed : Closed Any
 any-closed = record { has-zero = tt; has-flip = λ s b x. tt }
 
-any-all : (l : List ℕ) → All Any l
-any-all [] = tt
-any-all (x ∷ l) = (tt, any-all l)
-
 -- a combinational gate's normalization, or the flip-flop itself
 pub data Made (g h : Gate) : Type 0 where
   gate : isDff g ≡ false → Fit Any (length (g .ins)) h → Made g h
@@ -418,7 +414,7 @@ pub data Made (g h : Gate) : Type 0 where
 
 module _ (norm : Gate → Norm) (law : NormLaw norm) (g : Gate) (s : shaped g ≡ true) where
   pub made-is : (h : Gate) (z : Bool) → norm g ≡ made h z → Made g h
-  made-is h z q = by-bool (isDff g) (λ e. go (law .of-cell g s e) e) (λ e. gate e (law .of-comb Any any-closed g s e (any-all (g .ins)) .gate h z q))
+  made-is h z q = by-bool (isDff g) (λ e. go (law .of-cell g s e) e) (λ e. gate e (law .of-comb Any any-closed g s e (all-each Any (g .ins) (λ s. tt)) .gate h z q))
     where
       go : (norm g ≡ made g false) ⊎ (norm g ≡ copied 0) → isDff g ≡ true → Made g h
       go (inl r) e = cell e (cc)

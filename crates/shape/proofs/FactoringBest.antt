@@ -88,9 +88,6 @@ irreflexive x (inr (p, inr q)) = omega arith
 not-both : (x y : Top) → Before x y → Before y x → ⊥
 not-both x y p q = irreflexive x (before-trans x y x p q)
 
-true-false : true ≡ false → ⊥
-true-false e = let z : _≡_ {A = ℕ} 0 1 = cc in omega arith
-
 -- ---- the search is a fold over all pairs
 
 abbrev pub noPair : Top

@@ -16,7 +16,7 @@ use Rattle.model.specs.Sharing.{Pair, State, factoring, grown, inside, pairGate
 use Rattle.shape.specs.Room.{bufInputs, roomOf}
 use Rattle.laws.proofs.Bools.{and-both, and-left, and-right}
 use Rattle.laws.proofs.Choices.{by-bool}
-use Rattle.laws.proofs.Lists.{all-append, all-at, all-map, all-of, length-map}
+use Rattle.laws.proofs.Lists.{all-append, all-at, all-each, all-map, all-of, length-map}
 use Rattle.shape.proofs.FactoringEnds.{One, Some, lists-factoring, one-left}
 use Rattle.shape.proofs.FactoringSound.{Known, Rising, Sound, factoring-sound}
 use Rattle.shape.proofs.Named.{Here, here-more, here-var, wired-ins, wired-outs, wired-all}
@@ -31,15 +31,16 @@ unfolding taken
 taken-append f [] b = refl
 taken-append f (g ∷ a) b = by-bool (takes f g) (λ e. rw e (ap (_∷_ (g .ins)) (taken-append f a b))) (λ e. rw e (taken-append f a b))
 
-taken-some : (f : Family) (gs : List Gate) → All Some (taken f gs)
-unfolding taken
-taken-some f [] = tt
-taken-some f (g ∷ gs) = by-bool (takes f g) (λ e. rw e (omega (arith, ltb-true 1 (length (g .ins)) (and-right (inside f g) (ltb 1 (length (g .ins))) e)), taken-some f gs)) (λ e. rw e (taken-some f gs))
-
 pub taken-all : (P : List ℕ → Type 0) (f : Family) (gs : List Gate) → All (λ (g : Gate). takes f g ≡ true → P (g .ins)) gs → All P (taken f gs)
 unfolding taken
 taken-all P f [] h = tt
 taken-all P f (g ∷ gs) h = by-bool (takes f g) (λ e. rw e (h .0 e, taken-all P f gs (h .1))) (λ e. rw e (taken-all P f gs (h .1)))
+
+taken-some : (f : Family) (gs : List Gate) → All Some (taken f gs)
+taken-some f gs =
+    taken-all Some f gs
+    (all-each (λ (g : Gate). takes f g ≡ true → Some (g .ins)) gs
+    (λ g e. omega (arith, ltb-true 1 (length (g .ins)) (and-right (inside f g) (ltb 1 (length (g .ins))) e))))
 
 -- ---- its size
 

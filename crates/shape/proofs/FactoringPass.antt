@@ -36,16 +36,19 @@ module _ (f : Family) (N : Net) (ok : Valid N) (sorted : isTopoSorted N ≡ true
   pub pass-sorts : sorts (grown f N) ≡ true
   pass-sorts = grown-sorts f N ok sorted (pass-room f N ok none)
 
-  grown-valid : Valid (grown f N)
-  grown-valid = valid-grown f N ok (pass-room f N ok none)
+  pub pass-grown : Valid (grown f N)
+  pass-grown = valid-grown f N ok (pass-room f N ok none)
+
+  pub pass-source : Valid (topoSort (grown f N))
+  pass-source = sort-valid (grown f N) pass-grown pass-sorts
 
   pub pass-valid : Valid (factorGates f N)
   unfolding factorGates
-  pass-valid = dedup-valid makeCanonical canonical-law (topoSort (grown f N)) (sort-valid (grown f N) grown-valid pass-sorts) (sort-sorted (grown f N) grown-valid pass-sorts)
+  pass-valid = dedup-valid makeCanonical canonical-law (topoSort (grown f N)) pass-source (sort-sorted (grown f N) pass-grown pass-sorts)
 
   pub pass-sorted : isTopoSorted (factorGates f N) ≡ true
   unfolding factorGates
-  pass-sorted = dedup-sorted makeCanonical canonical-law (topoSort (grown f N)) (sort-valid (grown f N) grown-valid pass-sorts) (sort-sorted (grown f N) grown-valid pass-sorts)
+  pass-sorted = dedup-sorted makeCanonical canonical-law (topoSort (grown f N)) pass-source (sort-sorted (grown f N) pass-grown pass-sorts)
 
 -- ---- factor: the And pass, then the Xor pass
 

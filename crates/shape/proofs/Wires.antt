@@ -147,13 +147,6 @@ vars-length (s ∷ l) = by-bool (isVar s)
     (λ e. rw (varCons-node s (vars l) e) (suc-le-suc (vars-length l)))
     (λ e. rw (varCons-other s (vars l) e) (omega (arith, vars-length l)))
 
-pub vars-all : (n : ℕ) (l : List ℕ) → All (Below n) l → All (λ d. d < n) (vars l)
-unfolding vars
-vars-all n [] h = tt
-vars-all n (s ∷ l) h = by-bool (isVar s)
-    (λ e. rw (varCons-node s (vars l) e) (h .0 e, vars-all n l (h .1)))
-    (λ e. rw (varCons-other s (vars l) e) (vars-all n l (h .1)))
-
 -- ---- a network whose signals are all named
 
 module _ (N : Net) (w : wired N ≡ true) where
