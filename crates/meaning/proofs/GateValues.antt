@@ -1,26 +1,26 @@
 -- A gate's normal form has the gate's value; a flip-flop's is itself, or zero where it never leaves zero.
-use mathlib.Core.Path.{_≡_, refl, sym, ap, _∙_}
+use mathlib.Core.Path.{_≡_, refl, sym, ap, subst, _∙_}
 use mathlib.Core.Logic.{_⊎_, inl, inr}
 use Prim.Native.Nat.{ℕ}
 use mathlib.Core.Bool.{Bool, true, false, not, cond, _&&_}
 use mathlib.Core.List.{List, [], _∷_, map}
 use lib.ListN.{length}
-use lib.Dec.{eqb}
-use borrow.Author.Tests.{eqb-true}
-use Rattle.kinds.specs.Kinds.{kindOf, codeOf, isFlipFlop}
+use lib.Dec.{eqb, ltb}
+use Rattle.kinds.specs.Kinds.{kindOf, isFlipFlop}
 use Rattle.kinds.specs.declared.Kind.{Kind}
 use Rattle.kinds.specs.declared.Kind.the-variants.{And2, Xor2, And3, Xor3, Maj, Mux, AndN, OrN, NandN, NorN, XorN, XnorN, Buf, Dff, Lut}
 use Rattle.laws.specs.Bools.{xor}
-use Rattle.laws.proofs.Bools.{true-false, taut1, taut2, taut3}
+use Rattle.laws.proofs.Bools.{true-false, and-right, taut1, taut2, taut3}
 use Rattle.laws.proofs.Lists.{all-each, by-three}
 use Rattle.laws.proofs.Choices.{by-or3}
 use Rattle.model.specs.Signal.{neg, fromBool}
-use Rattle.model.specs.Gate.{Gate, isDff, fitsKind, fitsTable, shaped}
+use Rattle.model.specs.Gate.{Gate, isDff, fitsCode, shaped}
 use Rattle.model.specs.Evaluate.{valueOf, nextState, signalValue, gateValue, allOf, oddOf}
-use Rattle.model.specs.Normal.{Norm, copied, made, made3, makeDff, on1, on2, on3, normalK, makeCanonical, normValue}
+use Rattle.model.specs.Normal.{Norm, copied, made, gateOf, made3, makeDff, on1, on2, on3, normalK, makeCanonical, normValue}
 use Rattle.model.proofs.Words.{flip-false}
-use Rattle.meaning.proofs.Shapes.{gateWith, by-shape}
 use Rattle.model.proofs.Names.{Names, In}
+use Rattle.shape.proofs.Shaped.{dff-kind, shaped-code}
+use Rattle.shape.proofs.DedupNormal.{dff-is}
 use Rattle.meaning.proofs.Values.{Ok, ρ-zero, ρ-one, copy-ok, ok-is, and-ok, xor-ok, mux-ok, and3-ok, xor3-ok, maj-ok}
 use Rattle.meaning.proofs.NaryValues.{andF, val, val-and, val-xor, andN-ok, xorN-ok, neg-val, neg-in}
 
@@ -107,28 +107,14 @@ dff-cell d en res =
 abbrev Cell : Gate → Type 0
 Cell g = isDff g ≡ true → (makeCanonical g ≡ made g false) ⊎ ((makeCanonical g ≡ copied 0) × Stuck (g .ins))
 
-dff-shaped : (l : List ℕ) (t : ℕ) → eqb (length l) 3 ≡ true → t ≡ 0 → Cell (gateWith Dff l t)
+dff-shaped : (l : List ℕ) → eqb (length l) 3 ≡ true → Cell (gateOf Dff l)
 unfolding makeCanonical normalK kindOf made3
-dff-shaped l t e z = by-three (λ l. Cell (gateWith Dff l t)) l e (λ d en res f. rw z (dff-cell d en res))
+dff-shaped l e = by-three (λ l. Cell (gateOf Dff l)) l e (λ d en res f. dff-cell d en res)
 
 -- THE FLIP-FLOP: its normal form is itself, or zero, and then its state never leaves zero
 pub flip-flop-of-canonical : (g : Gate) → shaped g ≡ true → Cell g
-unfolding fitsTable kindOf
-flip-flop-of-canonical g e = by-shape Cell g e go
-  where
-    go : (k : Kind) (l : List ℕ) (t : ℕ) → fitsKind k (length l) ≡ true → fitsTable (codeOf k) (length l) t ≡ true → Cell (gateWith k l t)
-    go Dff l t f h = dff-shaped l t f (eqb-true t 0 h)
-    go And2 l t f h = λ d. true-false (sym d)
-    go Xor2 l t f h = λ d. true-false (sym d)
-    go And3 l t f h = λ d. true-false (sym d)
-    go Xor3 l t f h = λ d. true-false (sym d)
-    go Maj l t f h = λ d. true-false (sym d)
-    go Mux l t f h = λ d. true-false (sym d)
-    go AndN l t f h = λ d. true-false (sym d)
-    go OrN l t f h = λ d. true-false (sym d)
-    go NandN l t f h = λ d. true-false (sym d)
-    go NorN l t f h = λ d. true-false (sym d)
-    go XorN l t f h = λ d. true-false (sym d)
-    go XnorN l t f h = λ d. true-false (sym d)
-    go Buf l t f h = λ d. true-false (sym d)
-    go Lut l t f h = λ d. true-false (sym d)
+unfolding fitsCode kindOf
+flip-flop-of-canonical g e d =
+    let k = dff-kind g e d in
+    let three : eqb (length (g .ins)) 3 ≡ true = and-right (ltb 13 15) _ (rw k at (shaped-code g e)) in
+    subst Cell (sym (dff-is g e d)) (dff-shaped (g .ins) three) d

@@ -1,28 +1,26 @@
 -- The form of a normalization: which signals it is made of, how many, and that a gate of it is shaped. Says nothing of values.
 use mathlib.Core.Path.{_≡_, refl, sym, ap, _∙_, subst}
 use mathlib.Core.Logic.{_⊎_, inl, inr}
-use Prim.Native.Nat.{ℕ, suc, _/_, _≤_, _<_}
+use Prim.Native.Nat.{ℕ, suc, _/_, _≤_}
 use native.Mathlib.Omega.{arith}
 use mathlib.Core.Bool.{Bool, true, false, not}
 use mathlib.Core.List.{List, [], _∷_, map}
 use lib.ListN.{length, length-map}
-use lib.Dec.{eqb, leb, ltb}
-use borrow.Author.Tests.{eqb-true, ltb-true}
-use Rattle.kinds.specs.Kinds.{kindOf, codeOf, isFlipFlop}
+use lib.Dec.{eqb, leb}
+use Rattle.kinds.specs.Kinds.{kindOf, isFlipFlop}
 use Rattle.kinds.specs.declared.Kind.{Kind}
 use Rattle.kinds.specs.declared.Kind.the-variants.{And2, Xor2, And3, Xor3, Maj, Mux, AndN, OrN, NandN, NorN, XorN, XnorN, Buf, Dff, Lut}
-use Rattle.kinds.proofs.Codes.{code-kind}
 use Rattle.laws.specs.Bools.{xor}
 use Rattle.laws.specs.Lists.{All}
-use Rattle.laws.proofs.Bools.{true-false, and-left, and-right}
 use Rattle.laws.proofs.Choices.{by-bool, by-eq, by-or2, by-or3, by-test}
 use Rattle.laws.proofs.Lists.{all-each, map-all}
 use Rattle.model.specs.Signal.{isInverted, wordOf, flip, neg, withoutInversion, fromBool}
-use Rattle.model.specs.Gate.{Gate, isDff, fitsCode, fitsTable, shaped}
+use Rattle.model.specs.Gate.{Gate, isLut, isDff, fitsCode, fitsTable, shaped}
 use Rattle.model.specs.Normal.{Norm, copied, made, gateOf, made2, made3, least, most, low3, mid3, high3, andSorted, makeAnd, xorSorted, makeXor, and3Sorted, makeAnd3, xor3Sorted, makeXor3, muxPlain, muxSelect, makeMux, majPlain, majSorted, makeMaj, makeDff, keep, without, insert, sorted, uniq, opposed, andSome, andWide, andTidy, makeAndN, cancel, xorSome, makeXorN, on1, on2, on3, normalK, makeCanonical}
 use Rattle.model.specs.Network.{asIs}
 use Rattle.model.proofs.Words.{flip-false, one-is}
 use Rattle.model.proofs.Lists.{sorted-all, without-all, uniq-all, cancel-all}
+use Rattle.shape.proofs.Shaped.{dff-kind, table-none}
 
 -- a set of signals that has zero, and each signal with its inverse
 pub record Closed (S : ℕ → Type 0) : Type 0 where
@@ -347,30 +345,10 @@ pub asIs-law : NormLaw asIs
 asIs-law = record { of-comb = same-form; of-cell = λ g s d. inl refl }
 
 -- flip-flops have no table: their gate is its kind and inputs
-only-dff : (t : Kind) → isFlipFlop t ≡ true → t ≡ Dff
-only-dff Dff e = refl
-only-dff And2 e = true-false (sym e)
-only-dff Xor2 e = true-false (sym e)
-only-dff And3 e = true-false (sym e)
-only-dff Xor3 e = true-false (sym e)
-only-dff Maj e = true-false (sym e)
-only-dff Mux e = true-false (sym e)
-only-dff AndN e = true-false (sym e)
-only-dff OrN e = true-false (sym e)
-only-dff NandN e = true-false (sym e)
-only-dff NorN e = true-false (sym e)
-only-dff XorN e = true-false (sym e)
-only-dff XnorN e = true-false (sym e)
-only-dff Buf e = true-false (sym e)
-only-dff Lut e = true-false (sym e)
-
 pub dff-is : (g : Gate) → shaped g ≡ true → isDff g ≡ true → g ≡ gateOf Dff (g .ins)
-unfolding shaped fitsCode fitsTable
 dff-is g s d =
-    let fits = and-left (fitsCode (g .kind) (length (g .ins))) _ s in
-    let low : g .kind < 15 = ltb-true (g .kind) 15 (and-left (ltb (g .kind) 15) _ fits) in
-    let k : g .kind ≡ 13 = sym (code-kind (g .kind) low) ∙ ap codeOf (only-dff (kindOf (g .kind)) d) in
-    let t : g .table ≡ 0 = eqb-true (g .table) 0 (rw k at (and-right (fitsCode (g .kind) (length (g .ins))) _ s)) in
+    let k : g .kind ≡ 13 = dff-kind g s d in
+    let t : g .table ≡ 0 = table-none g s (ap isLut k) in
     λ i. record { kind = k i; ins = g .ins; table = t i }
 
 -- a flip-flop stays, or is zero

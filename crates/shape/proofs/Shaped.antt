@@ -1,6 +1,6 @@
 -- What a gate's shape says: its code, its inputs and its table in numbers.
 use mathlib.Core.Path.{_≡_, refl, sym, ap, _∙_}
-use mathlib.Core.Bool.{true, false, false≢true}
+use mathlib.Core.Bool.{true, false}
 use mathlib.Core.List.{List, _∷_}
 use Prim.Native.Nat.{ℕ, _^_, _≤_, _<_}
 use native.Mathlib.Omega.{arith}
@@ -8,7 +8,7 @@ use lib.ListN.{length}
 use lib.Pow.{pow-mono}
 use lib.Dec.{ltb}
 use borrow.Author.Tests.{ltb-true, leb-true, eqb-true}
-use Rattle.laws.proofs.Bools.{and-left, and-right}
+use Rattle.laws.proofs.Bools.{true-false, and-left, and-right}
 use Rattle.kinds.specs.Kinds.{codeOf, kindOf, isFlipFlop}
 use Rattle.kinds.proofs.Codes.{kind-code, code-kind}
 use Rattle.kinds.specs.declared.Kind.{Kind}
@@ -66,26 +66,26 @@ module _ (g : Gate) (gs : List Gate) (s : allShaped (g ∷ gs) ≡ true) where
 
 -- ---- flip-flops
 
-flip-flop-code : (k : Kind) → isFlipFlop k ≡ true → codeOf k ≡ 13
-flip-flop-code And2 e = absurd (false≢true e)
-flip-flop-code Xor2 e = absurd (false≢true e)
-flip-flop-code And3 e = absurd (false≢true e)
-flip-flop-code Xor3 e = absurd (false≢true e)
-flip-flop-code Maj e = absurd (false≢true e)
-flip-flop-code Mux e = absurd (false≢true e)
-flip-flop-code AndN e = absurd (false≢true e)
-flip-flop-code OrN e = absurd (false≢true e)
-flip-flop-code NandN e = absurd (false≢true e)
-flip-flop-code NorN e = absurd (false≢true e)
-flip-flop-code XorN e = absurd (false≢true e)
-flip-flop-code XnorN e = absurd (false≢true e)
-flip-flop-code Buf e = absurd (false≢true e)
-flip-flop-code Dff e = refl
-flip-flop-code Lut e = absurd (false≢true e)
+only-dff : (t : Kind) → isFlipFlop t ≡ true → t ≡ Dff
+only-dff Dff e = refl
+only-dff And2 e = true-false (sym e)
+only-dff Xor2 e = true-false (sym e)
+only-dff And3 e = true-false (sym e)
+only-dff Xor3 e = true-false (sym e)
+only-dff Maj e = true-false (sym e)
+only-dff Mux e = true-false (sym e)
+only-dff AndN e = true-false (sym e)
+only-dff OrN e = true-false (sym e)
+only-dff NandN e = true-false (sym e)
+only-dff NorN e = true-false (sym e)
+only-dff XorN e = true-false (sym e)
+only-dff XnorN e = true-false (sym e)
+only-dff Buf e = true-false (sym e)
+only-dff Lut e = true-false (sym e)
 
 -- of a gate that is shaped: a Dff is what has its code
 pub dff-kind : (g : Gate) → shaped g ≡ true → isDff g ≡ true → g .kind ≡ 13
-dff-kind g s e = sym (code-kind (g .kind) (kind-small g s)) ∙ flip-flop-code (kindOf (g .kind)) e
+dff-kind g s e = sym (code-kind (g .kind) (kind-small g s)) ∙ ap codeOf (only-dff (kindOf (g .kind)) e)
 
 pub kind-dff : (g : Gate) → g .kind ≡ 13 → isDff g ≡ true
 unfolding kindOf
