@@ -1,3 +1,4 @@
+-- Laws that every crate may cite: Bools, choices, lists, tables of a function, parts.
 pub mod Bools
 pub mod Choices
 pub mod Lists

@@ -22,7 +22,7 @@ use Rattle.shape.specs.Forms.{Inside, OutsInside, Ranked, Kept, Before, 
 use Rattle.shape.proofs.Sums.{sum-has, sum-pos, sum-add, sum-le, sum-full, sum-ones}
 use Rattle.shape.proofs.Members.{has-left, has-right, has-index, all-has, has-all, occ-has, rising-all, rising-bound, rising-has, rising-distinct, rising-length, rising-index}
 use Rattle.shape.proofs.Wires.{in-vars, vars-in, wired-inside, wired-outs-inside}
-use Rattle.shape.proofs.Remap.{remap-size, remap-sorted, remap-ranked, remap-fanin, remap-combs, remap-valid}
+use Rattle.shape.proofs.Remap.{kept-inside, remap-size, remap-sorted, remap-ranked, remap-fanin, remap-combs, remap-valid}
 use Rattle.shape.proofs.Search.{Ordered, J, result-J, result-empty}
 
 -- a sorted network is ranked by its numbers
@@ -241,11 +241,8 @@ module _ (N : Net) (w : wired N ≡ true) where
       let R = remap-ranked N (topoOrder N) O (sort-topo ok) in
       record {
         rank = R .rank;
-        below = λ n h e. all-map (gateAt N n .ins) (λ s f m q. (in-net (f m q .0), f m q .1)) (R .below n (place N (wired-inside N w) ok n h) e);
+        below = λ n h e. all-map (gateAt N n .ins) (λ s f m q. (kept-inside N (topoOrder N) O m (f m q .0), f m q .1)) (R .below n (place N (wired-inside N w) ok n h) e);
       }
-    where
-      in-net : {m : ℕ} → Kept (topoOrder N) m → m < size N
-      in-net k = rw (k .2) at (all-at (λ o. o < size N) (topoOrder N) 0 (order-bound N (wired-inside N w)) (k .0) (k .1))
 
   -- a network that is sorted already can be sorted
   pub sorted-sorts : isTopoSorted N ≡ true → sorts N ≡ true
