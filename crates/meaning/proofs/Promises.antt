@@ -25,10 +25,11 @@ use Rattle.kinds.specs.Kinds.{kindOf}
 use Rattle.kinds.specs.declared.Family.{Family}
 use Rattle.laws.specs.Bools.{bit}
 use Rattle.laws.specs.Lists.{All}
+use Rattle.laws.proofs.Choices.{clash}
 use Rattle.model.specs.Gate.{Gate, Net, Valid, combs, isTopoSorted, size}
 use Rattle.model.specs.Normal.{makeCanonical}
 use Rattle.model.specs.Network.{Cycle, Reach, asIs, canonical, cleanup, cleanupOrder, dedupMap, deduplicate, sorts, topoOrder, topoSort, translation}
-use Rattle.model.specs.Sharing.{anyRepeats, factorNary, factorRefusal, flattenNary, flattenedInputs, inside, isSimple, shareLogic, weights}
+use Rattle.model.specs.Sharing.{State, allPairs, anyRepeats, factorGates, factorNary, factorRefusal, factoring, findBestPair, flattenNary, flattenedInputs, grown, inside, isSimple, merged, passRefusal, shareLogic, taken, weights}
 use Rattle.model.specs.Image.{Bytes, bodyOf, imageOf, netOf, refusalOf, sortedRefusalOf}
 use Rattle.model.specs.Evaluate.{Eval, Solves, afterBy, allZero, at, evaluate, run, runBy, runFromZero, truth, truths}
 use Rattle.model.specs.Answers.{Kept, Kept2, answerOf, areasShort, inAreas, inRoom, unless, written}
@@ -37,6 +38,10 @@ use Rattle.shape.specs.Forms.{Kept as Stands}
 use Rattle.shape.proofs.Cleanup.{cleanup-combs, kept-reach, reach-kept, removed-zero}
 use Rattle.shape.proofs.Dedup.{dedup-combs}
 use Rattle.shape.proofs.DedupNormal.{asIs-law, canonical-law}
+use Rattle.shape.proofs.FactoringBest.{Before, Last, allPairs-none-two, best-fold, fold-last, noPair, pairsIn}
+use Rattle.shape.proofs.FactoringGrown.{ended, ended-one}
+use Rattle.shape.proofs.FactoringPass.{pass-grown, pass-sorted, pass-sorts, pass-valid}
+use Rattle.shape.proofs.Flatten.{flatten-valid, merged-valid}
 use Rattle.shape.proofs.Loops.{cycle-unsorted, unsorted-cycle}
 use Rattle.shape.proofs.RoundTrips.{read-written, written-read}
 use Rattle.shape.proofs.Sort.{sort-combs}
@@ -293,3 +298,33 @@ calls-are-a-run = calls-run
 -- The cases marked P of document 01, as one list (Cases).
 pub cases-marked-P : Cases
 cases-marked-P = cases
+
+-- ---- 5. Inside flatten and factor
+
+-- Of all pairs of signals that stand in one gate, none goes before the pair that is replaced next: by a greater count, then by the smaller
+-- first word, then by the smaller second (Before).
+pub chosen-pair : (gs : List (List ℕ)) → Last gs (findBestPair gs) (pairsIn gs)
+chosen-pair gs = rw (best-fold gs) (fold-last gs noPair (pairsIn gs) .1)
+
+-- Pairs are replaced as long as there are any: then no gate has two signals left.
+pub no-pair-left : (s : State) → All (λ l. length l ≤ 1) (allPairs s .lists)
+no-pair-left = allPairs-none-two
+
+-- After the joins each gate has one signal left: a Buf of it takes the gate's place.
+pub one-signal-left : (f : Family) (N : Net) → All (λ l. length l ≡ 1) (factoring (taken f (N .nodes)) (size N) .lists)
+unfolding ended
+one-signal-left f N = ended-one f N
+
+-- Every network on the way is valid and sorted: the flattened one before cleanup and after, and a pass's; and the network that a pass grows has
+-- no loop, so that 8 cannot happen inside.
+module _ (N : Net) (valid : Valid N) (sorted : isTopoSorted N ≡ true) where
+  pub flattened-is-valid : (limit : ℕ) → flattenedInputs N limit ≤ 2048 → Valid (merged N limit) × Valid (flattenNary N limit)
+  flattened-is-valid limit not-10 = (merged-valid N limit valid sorted not-10, flatten-valid N limit valid sorted not-10)
+
+  pub grown-has-no-loop : (f : Family) → passRefusal f N ≡ 0 → Valid (grown f N) × (Cycle (grown f N) → ⊥)
+  grown-has-no-loop f none =
+      let v = pass-grown f N valid sorted none in
+      (v, λ loop. clash (pass-sorts f N valid sorted none) (cycle-unsorted (grown f N) (v .signals) loop))
+
+  pub pass-is-valid : (f : Family) → passRefusal f N ≡ 0 → Valid (factorGates f N) × (isTopoSorted (factorGates f N) ≡ true)
+  pass-is-valid f none = (pass-valid f N valid sorted none, pass-sorted f N valid sorted none)

@@ -14,7 +14,7 @@ use Rattle.load.specs.declared.Loaded.the-variants.{Refused, Network}
 use Rattle.tables.specs.Holding.{networkOf}
 use Rattle.tables.specs.Working.{Answered}
 use Rattle.tables.specs.declared.counts.Counts.{Counts}
-use Rattle.lanternlean.proofs.Working.{refused-is, network-is, network-holds, network-held}
+use Rattle.load.proofs.Loading.{refused-is, network-is, network-holds, network-held}
 use Rattle.share.specs.Texts.{listOutcome}
 
 module _ (img l : List ℕ) (x : Loaded) (R : Read (refusalOf img) img l x) (text : List ℕ) where

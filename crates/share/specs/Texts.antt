@@ -6,8 +6,8 @@ use mathlib.Core.List.{List, [], _∷_}
 use lib.ListN.{length, drop}
 use lib.Dec.{ltb}
 use Rattle.model.specs.Answers.{Outcome, refused, written, evaluated, laidOver, inRoom, unless}
-use Rattle.model.specs.Entries.{readOutcome}
-use Rattle.model.specs.Image.{refusalOf, netOf}
+use Rattle.model.specs.Entries.{shareOutcome}
+use Rattle.model.specs.Image.{wordAt, refusalOf, netOf}
 use Rattle.model.specs.Listing.{ascii, decimal, line, listingOf}
 use Rattle.tables.specs.Layout.{netSize}
 
@@ -31,10 +31,10 @@ printedFor (refused n) room = refusedText n
 printedFor (written img mapping) room = textFor (listOutcome img room)
 printedFor (evaluated outputs state) room = outputs
 
--- "Input under 4 or over 16,384 bytes prints `refused 2`"; behind the limit's word stands the image
+-- "Input under 4 or over 16,384 bytes prints `refused 2`"; a word with the limit, then the image
 unfoldable pub printedOf : List ℕ → List ℕ → List ℕ → List ℕ → ℕ → List ℕ
 printedOf input out a b room =
-    cond (ltb (length input) 4 || ltb 16384 (length input)) (refusedText 2) (printedFor (readOutcome (drop 4 input) out a b) room)
+    cond (ltb (length input) 4 || ltb 16384 (length input)) (refusedText 2) (printedFor (shareOutcome (drop 4 input) out a b (wordAt input 0)) room)
 
 -- a text stands at the front of a lent buffer, r bytes long, and nothing past it was written
 pub record Shown (text b b′ : List ℕ) (r : ℕ) : Type 0 where

@@ -1,13 +1,11 @@
 // Prints the listing of a shared network, or `refused` and the number. Standard input holds a word with the flattening limit, then an
 // image; under 4 or over 16,384 bytes in all are refused with 2.
-// The entry share does not stand yet: until it does, the limit is passed over and the network is listed as it was read.
 ghost use Prim.Native.Nat.{_≤_};
 ghost use lib.ListN.{length};
 ghost use Rattle.tables.specs.Layout.{netSize};
 ghost use Rattle.tables.specs.Working.{Answered};
 ghost use Rattle.share.specs.Texts.{refusedText, listOutcome, textFor, printedOf, Shown, Lent};
 use answers::Answer;
-use lanternlean::read::read;
 use libc::STDIN_FILENO;
 use libc::STDOUT_FILENO;
 use listing::listing;
@@ -16,6 +14,8 @@ use listing::text::put_all;
 use listing::text::put_number;
 use load::Loaded;
 use load::load_image;
+use sharing::share::share;
+use words::word_at;
 
 // `refused` and the number, at the front of the text. Its length, as each of these answers.
 fn refuse(n: u32, text: &mut [u8]) -> usize
@@ -62,7 +62,8 @@ fn answer(input: &[u8], out: &mut [u8], a: &mut [u32], b: &mut [u32], text: &mut
     if 16384 < input.len() {
         return refuse(2, text);
     }
-    let r = read(&input[4..], out, a, b);
+    let limit = word_at(input, 0);
+    let r = share(&input[4..], limit, out, a, b);
     match r {
         Answer::Refused(n) => refuse(n, text),
         Answer::Accepted(len) => show(&out[..len], a, text),

@@ -19,6 +19,7 @@ answer-spec =
     (λ c κs. search needs)
     (λ c. search needs)
     (λ c. search (needs, answers, entry))
+    (λ c κs. search needs)
     (λ c. search needs)
     (λ c. search needs)
     (λ c. search needs)
