@@ -1,0 +1,2 @@
+-- What the contracts of `copying` cite.
+pub mod Copies
