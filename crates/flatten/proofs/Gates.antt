@@ -7,7 +7,8 @@ use native.Mathlib.Omega.{arith}
 use mir.Syntax.{w32}
 use mir.Val.{Fits}
 use lib.ListN.{getD, length}
-use Rattle.flatten.specs.Pushing.{Merges, Pushes, inputsFrom, putWords}
+use Rattle.copying.specs.Copies.{putCopy}
+use Rattle.flatten.specs.Pushing.{Merges, Pushes, putWords}
 use Rattle.flatten.specs.Flattening.{Flattens, Grew, Puts}
 use Rattle.kinds.specs.Kinds.{codeOf, inFamily, kindOf, wideOf}
 use Rattle.kinds.specs.declared.Family.{Family}
@@ -17,13 +18,14 @@ use Rattle.laws.specs.Lists.{tab}
 use Rattle.model.specs.Gate.{Gate}
 use Rattle.model.specs.Normal.{gateOf}
 use Rattle.model.specs.Sharing.{flatBy, flatGate, inside, mergeDependencies}
-use Rattle.tables.specs.Building.{Packed, putInputs, putNode}
-use Rattle.tables.specs.Layout.{countAt, firstAt, gateAt, highAt, insAt, kindAt, lowAt, netSize, nodesOf, putGate, putTable}
+use Rattle.tables.specs.Building.{Packed, putNode}
+use Rattle.tables.specs.Layout.{countAt, gateAt, insAt, kindAt, netSize, nodesOf, putGate, putTable}
+use Rattle.copying.proofs.Copied.{nodesOf-putCopy, packed-putCopy}
 use Rattle.tables.proofs.Building.{nodesOf-putNode, packed-putNode}
 use Rattle.tables.proofs.Gates.{gate≡}
 use Rattle.tables.proofs.Holding.{length-insAt}
 use Rattle.flatten.proofs.Openings.{ins-gate, kind-gate}
-use Rattle.flatten.proofs.Words.{behind-fits, behind-is, behind-le, behind-none, behind-over, insAt-words, putWords-inputs, tab-words}
+use Rattle.flatten.proofs.Words.{behind-fits, behind-is, behind-le, behind-none, behind-over, putWords-inputs, tab-words}
 use Rattle.flatten.specs.declared.merge.Pushed.{Pushed}
 use Rattle.flatten.specs.declared.merge.Pushed.the-variants.{To, Full}
 
@@ -48,31 +50,24 @@ module _ (l m : List ℕ) (v at : ℕ) (g : Gate) where
           nodes = λ _. rw p (nodesOf-putNode l v at P (g .kind) f n lo hi h r ∙ ap (λ x. nodesOf l v ++ (x ∷ [])) q);
         }
 
--- ---- copy_gate
-
-table-gate : (l : List ℕ) (v lo hi : ℕ) → lo ≡ lowAt l v → hi ≡ highAt l v → lo + 2 ^ 32 * hi ≡ gateAt l v .table
-unfolding gateAt
-table-gate l v lo hi el eh = rw (el, eh)
+-- ---- push_gate
 
 module _ (from l : List ℕ) (v at : ℕ) (P : Puts from l v at) where
   length-gate : length (gateAt from v .ins) ≡ countAt from v
   length-gate = ap length (ins-gate from v) ∙ length-insAt from v
 
   module _ (n : ℕ) (en : n ≡ countAt from v) where
-    pub copy-full : 2048 - at < n → Grew l l v at (gateAt from v) Full
-    copy-full h = grew-full l l v at (gateAt from v) (omega (arith, length-gate, P .packed .room))
+    pub push-gate-full : 2048 - at < n → Grew l l v at (gateAt from v) Full
+    push-gate-full h = grew-full l l v at (gateAt from v) (omega (arith, length-gate, P .packed .room))
 
-    module _ (h : n ≤ 2048 - at) (f : ℕ) (ef : f ≡ firstAt from v) where
-      pub copy-done : (k lo hi : ℕ) (m o q : List ℕ) → k ≡ kindAt from v → lo ≡ lowAt from v → hi ≡ highAt from v
-          → m ≡ putInputs l at (inputsFrom from f) n → o ≡ putGate m v k at n → q ≡ putTable o v lo hi → Grew l q v at (gateAt from v) (To (at + n))
-      copy-done k lo hi m o q ek el eh em eo eq =
-          let g = gateAt from v in
-          let w : m ≡ putWords l at (g .ins) = insAt-words from l v at m (em ∙ rw (en, ef)) ∙ ap (putWords l at) (sym (ins-gate from v)) in
-          let e : length (g .ins) ≡ n = length-gate ∙ sym en in
-          let x : Grew l q v at g (To (at + length (g .ins))) =
-          grew-to l q v at g (P .packed) (P .node) (omega (arith, P .packed .room)) lo hi (table-gate from v lo hi el eh)
-          (eq ∙ rw (eo, w, ek, ← (kind-gate from v), ← e)) in
-          rw e at x
+    pub push-gate-done : n ≤ 2048 - at → (m : List ℕ) → m ≡ putCopy from l v at → Grew l m v at (gateAt from v) (To (at + n))
+    push-gate-done h m em =
+        let room : at + countAt from v ≤ 2048 = omega (arith, P .packed .room) in
+        record {
+          answer = rw (length-gate, en) (sym (behind-fits at (countAt from v) room));
+          packed = λ _. rw (length-gate, em) (packed-putCopy from l v at (P .packed) (P .node) room);
+          nodes = λ _. rw em (nodesOf-putCopy from l v at (P .packed) (P .node) room);
+        }
 
 -- ---- merge_gate
 

@@ -24,12 +24,12 @@ use Rattle.model.specs.Sharing.{flatGate, flats, flattenedInputs, inside, merge
 use Rattle.model.proofs.Names.{In, sorted}
 use Rattle.tables.specs.Building.{Packed, putOutputs}
 use Rattle.tables.specs.Holding.{networkOf}
-use Rattle.tables.specs.Layout.{gateAt, netOf, netSize, nodesOf, outputAt, outputsOf, putOutput}
+use Rattle.tables.specs.Layout.{gateAt, netOf, netSize, nodesOf, outputAt, outputsOf}
 use Rattle.tables.specs.declared.counts.Counts.{Counts}
 use Rattle.laws.proofs.Choices.{by-bool}
 use Rattle.laws.proofs.Lists.{all-map}
 use Rattle.shape.proofs.Flatten.{flatAt, flats-next, inside-comb, merged-inputs, merged-nodes, merged-outs, merged-valid}
-use Rattle.tables.proofs.Building.{nodesOf-none, nodesOf-putOutputs, outputsOf-putOutputs, packed-none, packed-putOutputs, putOutputs-next}
+use Rattle.tables.proofs.Building.{nodesOf-none, nodesOf-putOutputs, outputsOf-putOutputs, packed-none, packed-putOutputs}
 use Rattle.tables.proofs.Holding.{fanin-append, fanin-one, gate-network, getD-nodesOf, holds as held-network, nodes-few, outs-few, size-network}
 use Rattle.flatten.proofs.Dependencies.{merge-same}
 use Rattle.flatten.proofs.Openings.{ins-gate}
@@ -144,33 +144,6 @@ module _ (from : List ℕ) (c : Counts) (limit : ℕ) (l₀ : List ℕ) (M : Mer
         }
 
 pub ruleset flattenings = (nodes-start, nodes-more, nodes-flattens, nodes-next, nodes-full, nodes-end)
-
--- ---- copy_outputs
-
-pub record Outs (from l₀ l : List ℕ) (m j : ℕ) : Type 0 where
-  pub upto : j ≤ m
-  pub same : length l ≡ length l₀
-  pub words : l ≡ putOutputs l₀ (outputAt from) j
-
-pub outs-start : (from l : List ℕ) (m : ℕ) → Outs from l l m 0
-unfolding putOutputs
-outs-start from l m = record { upto = omega arith; same = refl; words = refl }
-
-module _ (from l₀ l : List ℕ) (m j : ℕ) (inv : Outs from l₀ l m j) where
-  pub outs-long : netSize ≤ length l₀ → netSize ≤ length l
-  outs-long h = omega (arith, inv .same)
-
-  pub outs-next : (s : ℕ) (o : List ℕ) → j < m → s ≡ outputAt from j → o ≡ putOutput l j s → length o ≡ length l → Outs from l₀ o m (j + 1)
-  outs-next s o h es eo len = record {
-    upto = omega arith;
-    same = len ∙ inv .same;
-    words = eo ∙ rw (add-one j, inv .words) (putOutputs-next l₀ (outputAt from) j s es);
-  }
-
-  pub outs-end : m ≤ j → l ≡ putOutputs l₀ (outputAt from) m
-  outs-end h = let a = inv .upto in let e : j ≡ m = omega arith in inv .words ∙ ap (putOutputs l₀ (outputAt from)) e
-
-pub ruleset outputs = (outs-start, outs-long, outs-next, outs-end)
 
 -- ---- flatten_gates
 

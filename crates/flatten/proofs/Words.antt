@@ -1,24 +1,22 @@
--- Laws of words pushed at the end of the input table, one by one, from another network or from the same.
+-- Laws of words pushed at the end of the input table, one by one or from the same network.
 use Prim.Native.Nat.{suc, zero, ℕ, _+_, _-_, _<_, _≤_}
 use mathlib.Core.Path.{ap, refl, sym, _∙_, _≡_}
 use mathlib.Core.List.{List, [], _++_, _∷_}
 use native.Mathlib.Omega.{arith}
 use native.Mathlib.Nat.{add-zero, le-refl}
-use native.Mathlib.Numerals.{add-one}
-use mir.Syntax.{w64}
-use mir.Val.{Fits}
 use lib.ListN.{getD, length}
 use lib.Seq.{take-length}
 use lib.Dec.{leb}
 use borrow.Author.Tests.{le-leb, leb-false, leb-true, lt-leb}
-use Rattle.flatten.specs.Pushing.{Pushes, Reading, Within, behind, inputsFrom, putWords}
-use Rattle.flatten.specs.Flattening.{Copies}
+use Rattle.copying.specs.Copies.{Copies, inputsFrom}
+use Rattle.flatten.specs.Pushing.{Pushes, Reading, Within, behind, putWords}
 use Rattle.laws.specs.Lists.{tab}
 use Rattle.tables.specs.Building.{Packed, putInputs}
-use Rattle.tables.specs.Layout.{countAt, firstAt, gateAt, inputAt, insAt, netSize, putInput}
+use Rattle.tables.specs.Layout.{countAt, firstAt, gateAt, inputAt, insAt, putInput}
+use Rattle.copying.proofs.Copied.{Copying, copy-end, copy-long, copy-read, copy-read-fits, copy-start, copy-step, copy-write, copy-write-fits}
 use Rattle.laws.proofs.Choices.{by-bool}
 use Rattle.laws.proofs.Tabs.{length-tab, take-tab}
-use Rattle.tables.proofs.Building.{countAt-putInputs, firstAt-putInputs, highAt-putInputs, inputAt-putInputs-below, kindAt-putInputs, length-putInputs, lowAt-putInputs, putInputs-next}
+use Rattle.tables.proofs.Building.{countAt-putInputs, firstAt-putInputs, highAt-putInputs, inputAt-putInputs-below, kindAt-putInputs, length-putInputs, lowAt-putInputs}
 use Rattle.tables.proofs.Gates.{gateAt-same}
 use Rattle.tables.proofs.Holding.{length-insAt}
 use Rattle.flatten.specs.declared.merge.Pushed.the-variants.{To, Full}
@@ -111,71 +109,19 @@ push-full l at s h = record { answer = sym (behind-none at 1 (omega arith)); wor
 
 pub ruleset pushes = (push-done, push-full)
 
--- ---- copy_inputs, copy_within: j of n words copied
+-- ---- copy_within: the words copied stay what they were
 
-pub record Copying (from l₀ l : List ℕ) (f at n j : ℕ) : Type 0 where
-  pub upto : j ≤ n
-  pub same : length l ≡ length l₀
-  pub words : l ≡ putInputs l₀ at (inputsFrom from f) j
+pub within-copies : (l : List ℕ) (f at n : ℕ) → Within l f at n → Copies l l f at n
+within-copies l f at n C = record { source = C .long; long = C .long; ends = omega (arith, C .ends, C .room); room = C .room }
 
-pub copy-start : (from l : List ℕ) (f at n : ℕ) → Copying from l l f at n 0
-unfolding putInputs
-copy-start from l f at n = record { upto = omega arith; same = refl; words = refl }
+pub within-step : (l₀ l : List ℕ) (f at n j : ℕ) → Copying l₀ l₀ l f at n j → Within l₀ f at n → (s : ℕ) (m : List ℕ) → j < n → s ≡ inputAt l (f + j) → m ≡ putInput l (at + j) s → length m ≡ length l
+    → Copying l₀ l₀ m f at n (j + 1)
+within-step l₀ l f at n j inv C s m h es em len =
+    copy-step l₀ l₀ l f at n j inv s m h
+    (es ∙ ap (λ x. inputAt x (f + j)) (inv .words) ∙ inputAt-putInputs-below l₀ at (inputsFrom l₀ f) j (f + j) (omega (arith, C .ends)))
+    em len
 
-module _ (from l₀ l : List ℕ) (f at n j : ℕ) (inv : Copying from l₀ l f at n j) where
-  module _ (C : Copies from l₀ f at n) (h : j < n) where
-    pub copy-read : f + j < 2048
-    copy-read = omega (arith, C .ends)
-
-    pub copy-read-fits : Fits w64 (f + j)
-    copy-read-fits = record { fits = omega (arith, C .ends) }
-
-    pub copy-write : at + j < 2048
-    copy-write = omega (arith, C .room)
-
-    pub copy-write-fits : Fits w64 (at + j)
-    copy-write-fits = record { fits = omega (arith, C .room) }
-
-    pub copy-long : netSize ≤ length l
-    copy-long = omega (arith, C .long, inv .same)
-
-  pub copy-step : (s : ℕ) (m : List ℕ) → j < n → s ≡ inputAt from (f + j) → m ≡ putInput l (at + j) s → length m ≡ length l → Copying from l₀ m f at n (j + 1)
-  unfolding inputsFrom
-  copy-step s m h es em len = record {
-    upto = omega arith;
-    same = len ∙ inv .same;
-    words = em ∙ rw (add-one j, inv .words) (putInputs-next l₀ at (inputsFrom from f) j s es);
-  }
-
-  pub copy-end : n ≤ j → l ≡ putInputs l₀ at (inputsFrom from f) n
-  copy-end h = let a = inv .upto in let e : j ≡ n = omega arith in inv .words ∙ ap (putInputs l₀ at (inputsFrom from f)) e
-
-pub ruleset copies = (copy-start, copy-read, copy-read-fits, copy-write, copy-write-fits, copy-long, copy-step, copy-end)
-
--- the words copied within one network stay what they were
-module _ (l₀ l : List ℕ) (f at n j : ℕ) (inv : Copying l₀ l₀ l f at n j) (C : Within l₀ f at n) where
-  pub within-read : j < n → f + j < 2048
-  within-read h = omega (arith, C .ends, C .room)
-
-  pub within-read-fits : j < n → Fits w64 (f + j)
-  within-read-fits h = record { fits = omega (arith, C .ends, C .room) }
-
-  pub within-write : j < n → at + j < 2048
-  within-write h = omega (arith, C .room)
-
-  pub within-write-fits : j < n → Fits w64 (at + j)
-  within-write-fits h = record { fits = omega (arith, C .room) }
-
-  pub within-long : netSize ≤ length l
-  within-long = omega (arith, C .long, inv .same)
-
-  pub within-step : (s : ℕ) (m : List ℕ) → j < n → s ≡ inputAt l (f + j) → m ≡ putInput l (at + j) s → length m ≡ length l → Copying l₀ l₀ m f at n (j + 1)
-  within-step s m h es em len =
-      copy-step l₀ l₀ l f at n j inv s m h
-      (es ∙ ap (λ x. inputAt x (f + j)) (inv .words) ∙ inputAt-putInputs-below l₀ at (inputsFrom l₀ f) j (f + j) (omega (arith, C .ends)))
-      em len
-
-pub ruleset withins = (copy-start, within-read, within-read-fits, within-write, within-write-fits, within-long, within-step, copy-end)
+pub ruleset withins = (copy-start, within-copies, copy-read, copy-read-fits, copy-write, copy-write-fits, copy-long, within-step, copy-end)
 
 -- ---- open_node
 

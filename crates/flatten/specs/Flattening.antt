@@ -20,12 +20,6 @@ use Rattle.flatten.specs.declared.Merging.the-variants.{Fits, Full}
 
 -- ---- one gate
 
-pub record Copies (from l : List ℕ) (f at n : ℕ) : Type 0 where
-  pub source : netSize ≤ length from
-  pub long : netSize ≤ length l
-  pub ends : f + n ≤ 2048
-  pub room : at + n ≤ 2048
-
 -- node v of `from` is put behind the nodes of l, all that there are below v
 pub record Puts (from l : List ℕ) (v at : ℕ) : Type 0 where
   pub source : netSize ≤ length from

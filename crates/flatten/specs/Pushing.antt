@@ -11,14 +11,10 @@ use Rattle.model.specs.Signal.{isInverted, isVar}
 use Rattle.model.proofs.Names.{In}
 use Rattle.shape.specs.Forms.{Below}
 use Rattle.tables.specs.Building.{Packed}
-use Rattle.tables.specs.Layout.{countAt, firstAt, inputAt, insAt, netSize, putInput}
+use Rattle.tables.specs.Layout.{countAt, firstAt, insAt, netSize, putInput}
 use Rattle.kinds.specs.declared.Family.{Family}
 use Rattle.flatten.specs.declared.merge.Pushed.{Pushed}
 use Rattle.flatten.specs.declared.merge.Pushed.the-variants.{To, Full}
-
--- the input words from f on
-unfoldable pub inputsFrom : List ℕ → ℕ → ℕ → ℕ
-inputsFrom l f j = inputAt l (f + j)
 
 -- l with the words ws as its input words from `at` on
 unfoldable pub putWords : List ℕ → ℕ → List ℕ → List ℕ

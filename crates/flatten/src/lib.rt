@@ -1,16 +1,10 @@
 // share_logic.rs, flatten_nary before its cleanup: each And or Xor gate merged with the gates of its family that it names.
-ghost use mathlib.Core.Path.{_≡_};
-ghost use Prim.Native.Nat.{_≤_};
-ghost use lib.ListN.{length};
 ghost use Rattle.tables.specs.Holding.{networkOf};
-ghost use Rattle.tables.specs.Layout.{netSize, outputAt};
-ghost use Rattle.tables.specs.Building.{putOutputs};
 ghost use Rattle.flatten.specs.Flattening.{Mergeable, Merged, Laid};
 use crate::merge::Pushed;
 use crate::node::flatten_gate;
+use copying::copy_outputs;
 use tables::counts::Counts;
-use tables::layout::output_at;
-use tables::layout::put_output;
 
 pub mod merge;
 pub mod node;
@@ -37,17 +31,6 @@ fn flatten_nodes(from: &[u32], to: &mut [u32], counts: Counts, limit: u32) -> Me
         v += 1;
     }
     Merging::Fits
-}
-
-fn copy_outputs(from: &[u32], to: &mut [u32], m: usize)
-    requires { ⌜ (m ≤ 64) × (netSize ≤ length (now from)) × (netSize ≤ length (now to)) ⌝ }
-    ensures { λ _. ⌜ now (to .exit) ≡ putOutputs (now (to .entry)) (outputAt (now (from .entry))) m ⌝ }
-{
-    let mut j: usize = 0;
-    while j < m {
-        put_output(to, j, output_at(from, j));
-        j += 1;
-    }
 }
 
 // The flattened network in `to`, unless its gate inputs pass 2,048.

@@ -1,13 +1,11 @@
 // One gate put behind those in `to`: merged if it is an And or a Xor, else as it is.
-ghost use mathlib.Core.Path.{_≡_};
-ghost use Prim.Native.Nat.{_+_, _<_};
 ghost use Rattle.model.specs.Sharing.{flatBy, flatGate};
 ghost use Rattle.tables.specs.Layout.{gateAt};
-ghost use Rattle.tables.specs.Building.{putInputs};
-ghost use Rattle.flatten.specs.Pushing.{inputsFrom, Merges};
-ghost use Rattle.flatten.specs.Flattening.{Copies, Puts, Flattens, Grew};
+ghost use Rattle.flatten.specs.Pushing.{Merges};
+ghost use Rattle.flatten.specs.Flattening.{Puts, Flattens, Grew};
 use crate::merge::Pushed;
 use crate::merge::merge_dependencies;
+use copying::copy_gate;
 use kinds::Family;
 use kinds::code;
 use kinds::is_and;
@@ -15,28 +13,12 @@ use kinds::is_xor;
 use kinds::kind_of;
 use kinds::wide;
 use tables::layout::count_at;
-use tables::layout::first_at;
-use tables::layout::high_at;
-use tables::layout::input_at;
 use tables::layout::kind_at;
-use tables::layout::low_at;
 use tables::layout::put_gate;
-use tables::layout::put_input;
 use tables::layout::put_table;
 
-fn copy_inputs(from: &[u32], to: &mut [u32], f: usize, at: usize, n: usize)
-    requires { ⌜ Copies (now from) (now to) f at n ⌝ }
-    ensures { λ _. ⌜ now (to .exit) ≡ putInputs (now (to .entry)) at (inputsFrom (now (from .entry)) f) n ⌝ }
-{
-    let mut j: usize = 0;
-    while j < n {
-        put_input(to, at + j, input_at(from, f + j));
-        j += 1;
-    }
-}
-
 // Node v as it is.
-fn copy_gate(from: &[u32], to: &mut [u32], v: usize, at: usize) -> Pushed
+fn push_gate(from: &[u32], to: &mut [u32], v: usize, at: usize) -> Pushed
     requires { ⌜ Puts (now from) (now to) v at ⌝ }
     ensures { λ r. ⌜ Grew (now (to .entry)) (now (to .exit)) v at (gateAt (now (from .entry)) v) r ⌝ }
 {
@@ -44,9 +26,7 @@ fn copy_gate(from: &[u32], to: &mut [u32], v: usize, at: usize) -> Pushed
     if 2048 - at < n {
         return Pushed::Full;
     }
-    copy_inputs(from, to, first_at(from, v), at, n);
-    put_gate(to, v, kind_at(from, v), at as u32, n as u32);
-    put_table(to, v, low_at(from, v), high_at(from, v));
+    copy_gate(from, to, v, at);
     Pushed::To(at + n)
 }
 
@@ -75,5 +55,5 @@ pub fn flatten_gate(from: &[u32], to: &mut [u32], v: usize, limit: u32, at: usiz
     if is_xor(k) {
         return merge_gate(from, to, v, Family::Xor, limit, at);
     }
-    copy_gate(from, to, v, at)
+    push_gate(from, to, v, at)
 }

@@ -1,6 +1,7 @@
 use Prim.Native.Nat.{_-_}
 use borrow.Author.Needs.{needs}
-use Rattle.flatten.proofs.Words.{Copying, withins}
+use Rattle.copying.proofs.Copied.{Copying}
+use Rattle.flatten.proofs.Words.{withins}
 use Rattle.flatten.proofs.merge.copy_within.Statement.{statement}
 use Rattle.flatten.proofs.merge.copy_within.Tie as tie
 
