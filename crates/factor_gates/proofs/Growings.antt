@@ -9,7 +9,8 @@ use native.Mathlib.Numerals.{add-one}
 use mir.Syntax.{w32, w64}
 use mir.Val.{Fits}
 use lib.ListN.{length, length-append}
-use Rattle.factor_gates.specs.Growing.{Begun, Copies, Nodes, Puts, Putting, either, inputsFrom, putCopy}
+use Rattle.copying.specs.Copies.{Putting, inputsFrom, putCopy}
+use Rattle.factor_gates.specs.Growing.{Begun, Nodes, Puts, either}
 use Rattle.kinds.specs.Kinds.{codeOf}
 use Rattle.laws.specs.Lists.{tab}
 use Rattle.model.specs.Gate.{Gate}
@@ -18,13 +19,14 @@ use Rattle.model.specs.Sharing.{pairGate, replaced, taken, takes, twoOf}
 use Rattle.pairs.specs.Lists.{areaSize, front, leftAt, listAt, listsOf, sigAt, startAt}
 use Rattle.shape.specs.Room.{bufInputs}
 use Rattle.tables.specs.Building.{Packed, putInputs, putNode}
-use Rattle.tables.specs.Layout.{countAt, firstAt, gateAt, highAt, inputAt, insAt, kindAt, lowAt, netSize, nodesOf, putGate, putInput, putTable}
+use Rattle.tables.specs.Layout.{countAt, firstAt, gateAt, highAt, kindAt, lowAt, nodesOf, putGate, putInput, putTable}
 use Rattle.uses.specs.Loading.{SameLists, listsIn}
+use Rattle.copying.proofs.Copied.{nodesOf-putCopy, packed-putCopy}
 use Rattle.factor_gates.proofs.Rooms.{buf-none, buf-other, buf-small, buf-taken}
 use Rattle.laws.proofs.Choices.{by-bool}
 use Rattle.pairs.proofs.Gates.{length-lists}
 use Rattle.pairs.proofs.Places.{leftAt-putNode, sigAt-putNode, startAt-putNode}
-use Rattle.tables.proofs.Building.{length-putNode, nodesOf-next, nodesOf-none, nodesOf-putNode, packed-none, packed-putNode, putInputs-next}
+use Rattle.tables.proofs.Building.{length-putNode, nodesOf-next, nodesOf-none, nodesOf-putNode, packed-none, packed-putNode}
 use Rattle.tables.proofs.Gates.{gate≡}
 use Rattle.uses.proofs.Slots.{list-there, lists-next, lists-none, lists-skip}
 use Rattle.uses.proofs.Tallies.{lists-on, lists-same}
@@ -34,63 +36,6 @@ use Rattle.kinds.specs.declared.Kind.{Kind}
 use Rattle.kinds.specs.declared.Kind.the-variants.{Buf}
 
 -- ---- one gate
-
-pub record Copying (from l₀ l : List ℕ) (f at n j : ℕ) : Type 0 where
-  pub upto : j ≤ n
-  pub same : length l ≡ length l₀
-  pub words : l ≡ putInputs l₀ at (inputsFrom from f) j
-
-pub copy-start : (from l : List ℕ) (f at n : ℕ) → Copying from l l f at n 0
-unfolding putInputs
-copy-start from l f at n = record { upto = omega arith; same = refl; words = refl }
-
-module _ (from l₀ l : List ℕ) (f at n j : ℕ) (inv : Copying from l₀ l f at n j) where
-  module _ (C : Copies from l₀ f at n) (h : j < n) where
-    pub copy-read : f + j < 2048
-    copy-read = omega (arith, C .ends)
-
-    pub copy-read-fits : Fits w64 (f + j)
-    copy-read-fits = record { fits = omega (arith, C .ends) }
-
-    pub copy-write : at + j < 2048
-    copy-write = omega (arith, C .room)
-
-    pub copy-write-fits : Fits w64 (at + j)
-    copy-write-fits = record { fits = omega (arith, C .room) }
-
-    pub copy-long : netSize ≤ length l
-    copy-long = omega (arith, C .long, inv .same)
-
-  pub copy-step : (s : ℕ) (m : List ℕ) → j < n → s ≡ inputAt from (f + j) → m ≡ putInput l (at + j) s → length m ≡ length l → Copying from l₀ m f at n (j + 1)
-  unfolding inputsFrom
-  copy-step s m h es em len = record {
-    upto = omega arith;
-    same = len ∙ inv .same;
-    words = em ∙ rw (add-one j, inv .words) (putInputs-next l₀ at (inputsFrom from f) j s es);
-  }
-
-  pub copy-end : n ≤ j → l ≡ putInputs l₀ at (inputsFrom from f) n
-  copy-end h = let a = inv .upto in let e : j ≡ n = omega arith in inv .words ∙ ap (putInputs l₀ at (inputsFrom from f)) e
-
-pub ruleset copies = (copy-start, copy-read, copy-read-fits, copy-write, copy-write-fits, copy-long, copy-step, copy-end)
-
--- copy_gate
-module _ (from l : List ℕ) (v at : ℕ) (P : Putting from l v at) where
-  pub gate-copies : (n f : ℕ) → n ≡ countAt from v → f ≡ firstAt from v → Copies from l f at n
-  gate-copies n f en ef = record { source = P .node .long; long = P .long; ends = omega (arith, P .node .ends); room = omega (arith, P .room) }
-
-  pub gate-at : Fits w32 at
-  gate-at = record { fits = omega (arith, P .room) }
-
-  pub gate-count : (n : ℕ) → n ≡ countAt from v → Fits w32 n
-  gate-count n en = record { fits = omega (arith, P .room) }
-
-  pub gate-done : (n f k lo hi : ℕ) (m o q : List ℕ) → n ≡ countAt from v → f ≡ firstAt from v → k ≡ kindAt from v → lo ≡ lowAt from v → hi ≡ highAt from v
-      → m ≡ putInputs l at (inputsFrom from f) n → o ≡ putGate m v k at n → q ≡ putTable o v lo hi → q ≡ putCopy from l v at
-  unfolding putCopy putNode
-  gate-done n f k lo hi m o q en ef ek el eh em eo eq = eq ∙ rw (eo, em, en, ef, ek, el, eh)
-
-pub ruleset gateCopies = (gate-copies, gate-at, gate-count, gate-done)
 
 -- put_buf, put_two
 module _ (l : List ℕ) (v at : ℕ) where
@@ -116,10 +61,6 @@ module _ (l : List ℕ) (v at : ℕ) where
 pub ruleset puts = (buf-done, two-done, puts-at, puts-next, puts-fits)
 
 -- the gates that these are
-pub is-copy : (from : List ℕ) (v : ℕ) → record { kind = kindAt from v; ins = tab (inputsFrom from (firstAt from v)) (countAt from v); table = lowAt from v + 2 ^ 32 * highAt from v } ≡ gateAt from v
-unfolding gateAt insAt inputsFrom
-is-copy from v = refl
-
 pub is-buf : (s : ℕ) → _≡_ {A = Gate} (record { kind = 12; ins = tab (either s s) 1; table = 0 + 2 ^ 32 * 0 }) (gateOf Buf (s ∷ []))
 unfolding tab either
 is-buf s = gate≡ refl refl refl
@@ -164,6 +105,10 @@ lists-putNode l v k at f n lo hi h r = record {
   starts = startAt-putNode l v k at f n lo hi h r;
   lefts = leftAt-putNode l v k at f n lo hi h r;
 }
+
+lists-putCopy : (from l : List ℕ) (v at : ℕ) → v < 512 → at + countAt from v ≤ 2048 → SameLists l (putCopy from l v at)
+unfolding putCopy
+lists-putCopy from l v at h r = lists-putNode l v (kindAt from v) at (inputsFrom from (firstAt from v)) (countAt from v) (lowAt from v) (highAt from v) h r
 
 -- ---- put_nodes
 
@@ -264,30 +209,24 @@ module _ (f : Family) (from l₀ l : List ℕ) (n i at v : ℕ) (inv : Writing f
         wide = omega (arith, inv .count, buf-other f from v u, buf-small f from n (suc v) (B .source) h)
 
         pub nodes-copy : Putting from l v at
-        nodes-copy = record { node = B .source .nodes v h; long = inv .packed .long; room = wide }
+        nodes-copy = let N = B .source .nodes v h in record { source = N .long; long = inv .packed .long; few = writes-few; ends = N .ends; room = wide }
 
         module _ (c : ℕ) (ec : c ≡ countAt from v) where
           pub nodes-fits : Fits w64 (at + c)
           nodes-fits = record { fits = omega (arith, wide) }
 
           pub nodes-other : (m : List ℕ) → m ≡ putCopy from l v at → length m ≡ length l → Writing f from l₀ m n i (at + c) (v + 1)
-          unfolding putCopy
           nodes-other m em len =
-              let k = kindAt from v in
-              let g = inputsFrom from (firstAt from v) in
-              let d = countAt from v in
-              let lo = lowAt from v in
-              let hi = highAt from v in
               rw (em, add-one v, ec)
               (record {
                 upto = h;
-                same = lists-on l₀ l (putNode l v k at g d lo hi) (inv .same) (lists-putNode l v k at g d lo hi writes-few wide);
+                same = lists-on l₀ l (putCopy from l v at) (inv .same) (lists-putCopy from l v at writes-few wide);
                 gates = rw (lists-skip f from v u) (inv .gates);
                 count = omega (arith, inv .count, buf-other f from v u);
-                packed = packed-putNode l v at (inv .packed) k g d lo hi writes-few wide;
+                packed = packed-putCopy from l v at (inv .packed) writes-few wide;
                 nodes =
-                    nodesOf-putNode l v at (inv .packed) k g d lo hi writes-few wide
-                    ∙ rw (inv .nodes, is-copy from v, nodesOf-next from v)
+                    nodesOf-putCopy from l v at (inv .packed) writes-few wide
+                    ∙ rw (inv .nodes, nodesOf-next from v)
                     (sym (replaced-other f (nodesOf from v) (listsOf l₀ i) (gateAt from v) (length-lists l₀ i ∙ inv .gates ∙ lists-count f from v) u));
               })
 

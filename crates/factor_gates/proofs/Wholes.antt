@@ -1,4 +1,4 @@
--- Laws of writing the new nodes and the outputs, and of the whole grown network.
+-- Laws of writing the new nodes, and of the whole grown network.
 use Prim.Native.Nat.{suc, ℕ, _*_, _+_, _-_, _/_, _<_, _≤_}
 use mathlib.Core.Path.{ap, ap₂, refl, sym, _∙_, _≡_}
 use mathlib.Core.Logic.{inl, inr}
@@ -23,7 +23,7 @@ use Rattle.pairs.specs.States.{stateOf}
 use Rattle.shape.specs.Room.{bufInputs, roomOf}
 use Rattle.tables.specs.Building.{Packed, putNode, putOutputs}
 use Rattle.tables.specs.Holding.{Held, networkOf}
-use Rattle.tables.specs.Layout.{firstAt, inputAt, netOf, netSize, nodesOf, outputAt, outputsOf, putOutput}
+use Rattle.tables.specs.Layout.{firstAt, inputAt, netOf, netSize, nodesOf, outputAt, outputsOf}
 use Rattle.uses.specs.Loading.{SameLists, Source, listsIn}
 use Rattle.uses.specs.Uses.{Named}
 use Rattle.factor_gates.proofs.Growings.{is-two, lists-putNode}
@@ -35,11 +35,10 @@ use Rattle.pairs.proofs.Gates.{getD-lists, length-list, length-lists}
 use Rattle.pairs.proofs.Stated.{pair≡}
 use Rattle.shape.proofs.FactoringGrown.{ended, ended-one, fanin-grown, grown-nodes, room-fits, size-grown, valid-grown}
 use Rattle.shape.proofs.Named.{Here, here-node, here-word}
-use Rattle.tables.proofs.Building.{nodesOf-putNode, nodesOf-putOutputs, outputsOf-putOutputs, packed-putNode, packed-putOutputs, putOutputs-next}
+use Rattle.tables.proofs.Building.{nodesOf-putNode, nodesOf-putOutputs, outputsOf-putOutputs, packed-putNode, packed-putOutputs}
 use Rattle.tables.proofs.Holding.{input-named, inputs-few, length-nodesOf, length-outputsOf, nodes-few, outs-few, size-network, total-few}
 use Rattle.uses.proofs.Tallies.{lists-on, lists-same}
 use Rattle.kinds.specs.declared.Family.{Family}
-use Rattle.kinds.specs.declared.Kind.the-variants.{Buf}
 use Rattle.tables.specs.declared.counts.Counts.{Counts}
 use Rattle.tables.proofs.Holding.{holds as held-network}
 
@@ -126,33 +125,6 @@ module _ (f : Family) (l₀ l : List ℕ) (n k at j : ℕ) (inv : Pairing f l₀
       rw (← e) (record { long = inv .same .long; packed = inv .packed; nodes = inv .nodes })
 
 pub ruleset pairings = (pairs-start, pairs-few, pairs-node, pairs-two, pairs-at, pairs-more, pairs-long, pairs-puts, pairs-next, pairs-end)
-
--- ---- copy_outputs
-
-pub record Outs (from l₀ l : List ℕ) (m j : ℕ) : Type 0 where
-  pub upto : j ≤ m
-  pub same : length l ≡ length l₀
-  pub words : l ≡ putOutputs l₀ (outputAt from) j
-
-pub outs-start : (from l : List ℕ) (m : ℕ) → Outs from l l m 0
-unfolding putOutputs
-outs-start from l m = record { upto = omega arith; same = refl; words = refl }
-
-module _ (from l₀ l : List ℕ) (m j : ℕ) (inv : Outs from l₀ l m j) where
-  pub outs-long : netSize ≤ length l₀ → netSize ≤ length l
-  outs-long h = omega (arith, inv .same)
-
-  pub outs-next : (s : ℕ) (o : List ℕ) → j < m → s ≡ outputAt from j → o ≡ putOutput l j s → length o ≡ length l → Outs from l₀ o m (j + 1)
-  outs-next s o h es eo len = record {
-    upto = omega arith;
-    same = len ∙ inv .same;
-    words = eo ∙ rw (add-one j, inv .words) (putOutputs-next l₀ (outputAt from) j s es);
-  }
-
-  pub outs-end : m ≤ j → l ≡ putOutputs l₀ (outputAt from) m
-  outs-end h = let a = inv .upto in let e : j ≡ m = omega arith in inv .words ∙ ap (putOutputs l₀ (outputAt from)) e
-
-pub ruleset outputs = (outs-start, outs-long, outs-next, outs-end)
 
 -- ---- what a held network gives to read
 

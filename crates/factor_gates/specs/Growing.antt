@@ -11,40 +11,21 @@ use Rattle.model.specs.Sharing.{factoring, grown, pairGate, replaced}
 use Rattle.pairs.specs.Lists.{Laid, areaSize, leftAt, listsOf, pairAt}
 use Rattle.pairs.specs.States.{stateOf}
 use Rattle.shape.specs.Room.{bufInputs, roomOf}
-use Rattle.tables.specs.Building.{Packed, putNode}
+use Rattle.tables.specs.Building.{Packed}
 use Rattle.tables.specs.Holding.{Held, Holds, networkOf}
-use Rattle.tables.specs.Layout.{countAt, firstAt, highAt, inputAt, kindAt, lowAt, netSize, nodesOf}
-use Rattle.uses.specs.Loading.{Node, SameLists, Source, listsIn}
+use Rattle.tables.specs.Layout.{netSize, nodesOf}
+use Rattle.uses.specs.Loading.{SameLists, Source, listsIn}
 use Rattle.kinds.specs.declared.Family.{Family}
 use Rattle.tables.specs.declared.counts.Counts.{Counts}
-
--- the input words from f on
-unfoldable pub inputsFrom : List ℕ → ℕ → ℕ → ℕ
-inputsFrom l f j = inputAt l (f + j)
 
 -- a, and b behind it
 unfoldable pub either : ℕ → ℕ → ℕ → ℕ
 either a b j = cond (eqb j 0) a b
 
-pub record Copies (from l : List ℕ) (f at n : ℕ) : Type 0 where
-  pub source : netSize ≤ length from
-  pub long : netSize ≤ length l
-  pub ends : f + n ≤ 2048
-  pub room : at + n ≤ 2048
-
 pub record Puts (l : List ℕ) (v at n : ℕ) : Type 0 where
   pub long : netSize ≤ length l
   pub few : v < 512
   pub room : at + n ≤ 2048
-
-pub record Putting (from l : List ℕ) (v at : ℕ) : Type 0 where
-  pub node : Node from v
-  pub long : netSize ≤ length l
-  pub room : at + countAt from v ≤ 2048
-
--- node v of from as it is, its inputs from at on
-unfoldable pub putCopy : List ℕ → List ℕ → ℕ → ℕ → List ℕ
-putCopy from l v at = putNode l v (kindAt from v) at (inputsFrom from (firstAt from v)) (countAt from v) (lowAt from v) (highAt from v)
 
 -- ---- the old nodes
 

@@ -1,12 +1,11 @@
 // The grown network, written in front of the lists: each gate of the pass a Buf of the one signal left of it, then the pairs.
 ghost use mathlib.Core.Path.{_≡_};
-ghost use Prim.Native.Nat.{ℕ, _+_, _*_, _<_, _≤_};
-ghost use lib.ListN.{length};
 ghost use Rattle.kinds.specs.Kinds.{codeOf};
 ghost use Rattle.model.specs.Sharing.{twoOf};
-ghost use Rattle.tables.specs.Layout.{netSize, outputAt};
-ghost use Rattle.tables.specs.Building.{putInputs, putNode, putOutputs};
-ghost use Rattle.factor_gates.specs.Growing.{inputsFrom, either, Copies, Puts, Putting, putCopy, Begun, Nodes, Paired, Whole, Ended, Grows};
+ghost use Rattle.tables.specs.Building.{putNode};
+ghost use Rattle.factor_gates.specs.Growing.{either, Puts, Begun, Nodes, Paired, Whole, Ended, Grows};
+use copying::copy_gate;
+use copying::copy_outputs;
 use kinds::Family;
 use kinds::Kind;
 use kinds::code;
@@ -16,39 +15,10 @@ use pairs::lists::sig_at;
 use pairs::lists::start_at;
 use tables::counts::Counts;
 use tables::layout::count_at;
-use tables::layout::first_at;
-use tables::layout::high_at;
-use tables::layout::input_at;
-use tables::layout::kind_at;
-use tables::layout::low_at;
-use tables::layout::output_at;
 use tables::layout::put_gate;
 use tables::layout::put_input;
-use tables::layout::put_output;
 use tables::layout::put_table;
 use uses::count::takes;
-
-fn copy_inputs(from: &[u32], to: &mut [u32], f: usize, at: usize, n: usize)
-    requires { ⌜ Copies (now from) (now to) f at n ⌝ }
-    ensures { λ _. ⌜ now (to .exit) ≡ putInputs (now (to .entry)) at (inputsFrom (now (from .entry)) f) n ⌝ }
-{
-    let mut j: usize = 0;
-    while j < n {
-        put_input(to, at + j, input_at(from, f + j));
-        j += 1;
-    }
-}
-
-// Node v as it is.
-fn copy_gate(from: &[u32], to: &mut [u32], v: usize, at: usize)
-    requires { ⌜ Putting (now from) (now to) v at ⌝ }
-    ensures { λ _. ⌜ now (to .exit) ≡ putCopy (now (from .entry)) (now (to .entry)) v at ⌝ }
-{
-    let n = count_at(from, v);
-    copy_inputs(from, to, first_at(from, v), at, n);
-    put_gate(to, v, kind_at(from, v), at as u32, n as u32);
-    put_table(to, v, low_at(from, v), high_at(from, v));
-}
 
 // Node v as a Buf of s.
 fn put_buf(to: &mut [u32], v: usize, at: usize, s: u32)
@@ -115,17 +85,6 @@ fn put_pairs(to: &mut [u32], n: usize, k: usize, f: Family, at: usize)
         let a = pair_first(to, n + j);
         let b = pair_second(to, n + j);
         put_two(to, n + j, f, at + 2 * j, a, b);
-        j += 1;
-    }
-}
-
-fn copy_outputs(from: &[u32], to: &mut [u32], m: usize)
-    requires { ⌜ (m ≤ 64) × (netSize ≤ length (now from)) × (netSize ≤ length (now to)) ⌝ }
-    ensures { λ _. ⌜ now (to .exit) ≡ putOutputs (now (to .entry)) (outputAt (now (from .entry))) m ⌝ }
-{
-    let mut j: usize = 0;
-    while j < m {
-        put_output(to, j, output_at(from, j));
         j += 1;
     }
 }
