@@ -1,5 +1,5 @@
 -- Laws of one gate put behind those that stand there: as it is, or merged.
-use Prim.Native.Nat.{ℕ, _*_, _+_, _-_, _<_, _^_, _≤_}
+use Prim.Native.Nat.{ℕ, _+_, _-_, _<_, _≤_}
 use mathlib.Core.Path.{ap, refl, sym, _∙_, _≡_}
 use mathlib.Core.Bool.{Bool, false, true}
 use mathlib.Core.List.{List, [], _++_, _∷_}
@@ -23,7 +23,7 @@ use Rattle.tables.specs.Layout.{countAt, gateAt, insAt, kindAt, netSize, nodesO
 use Rattle.copying.proofs.Copied.{nodesOf-putCopy, packed-putCopy}
 use Rattle.tables.proofs.Building.{nodesOf-putNode, packed-putNode}
 use Rattle.tables.proofs.Gates.{gate≡}
-use Rattle.tables.proofs.Holding.{length-insAt}
+use Rattle.tables.proofs.Holding.{length-ins}
 use Rattle.flatten.proofs.Openings.{ins-gate, kind-gate}
 use Rattle.flatten.proofs.Words.{behind-fits, behind-is, behind-le, behind-none, behind-over, putWords-inputs, tab-words}
 use Rattle.flatten.specs.declared.merge.Pushed.{Pushed}
@@ -35,37 +35,34 @@ module _ (l m : List ℕ) (v at : ℕ) (g : Gate) where
   pub grew-full : 2048 < at + length (g .ins) → Grew l m v at g Full
   grew-full h = record { answer = sym (behind-none at (length (g .ins)) h); packed = λ q. absurd (omega arith); nodes = λ q. absurd (omega arith) }
 
-  module _ (P : Packed l v at) (h : v < 512) (r : at + length (g .ins) ≤ 2048) (lo hi : ℕ) (et : lo + 2 ^ 32 * hi ≡ g .table) where
-    pub grew-to : m ≡ putTable (putGate (putWords l at (g .ins)) v (g .kind) at (length (g .ins))) v lo hi → Grew l m v at g (To (at + length (g .ins)))
+  module _ (P : Packed l v at) (h : v < 512) (r : at + length (g .ins) ≤ 2048) (et : 0 ≡ g .table) where
+    pub grew-to : m ≡ putTable (putGate (putWords l at (g .ins)) v (g .kind) at (length (g .ins))) v 0 0 → Grew l m v at g (To (at + length (g .ins)))
     unfolding putNode
     grew-to e =
         let ws = g .ins in
         let f : ℕ → ℕ = λ j. getD (g .ins) j 0 in
         let n = length (g .ins) in
-        let p : m ≡ putNode l v (g .kind) at f n lo hi = e ∙ ap (λ x. putTable (putGate x v (g .kind) at n) v lo hi) (putWords-inputs l at ws) in
-        let q : _≡_ {A = Gate} (record { kind = g .kind; ins = tab (λ j. getD (g .ins) j 0) (length (g .ins)); table = lo + 2 ^ 32 * hi }) g = gate≡ refl (tab-words ws) et in
+        let p : m ≡ putNode l v (g .kind) at f n 0 0 = e ∙ ap (λ x. putTable (putGate x v (g .kind) at n) v 0 0) (putWords-inputs l at ws) in
+        let q : _≡_ {A = Gate} (record { kind = g .kind; ins = tab (λ j. getD (g .ins) j 0) (length (g .ins)); table = 0 }) g = gate≡ refl (tab-words ws) et in
         record {
           answer = sym (behind-fits at n r);
-          packed = λ _. rw p (packed-putNode l v at P (g .kind) f n lo hi h r);
-          nodes = λ _. rw p (nodesOf-putNode l v at P (g .kind) f n lo hi h r ∙ ap (λ x. nodesOf l v ++ (x ∷ [])) q);
+          packed = λ _. rw p (packed-putNode l v at P (g .kind) f n 0 0 h r);
+          nodes = λ _. rw p (nodesOf-putNode l v at P (g .kind) f n 0 0 h r ∙ ap (λ x. nodesOf l v ++ (x ∷ [])) q);
         }
 
 -- ---- push_gate
 
 module _ (from l : List ℕ) (v at : ℕ) (P : Puts from l v at) where
-  length-gate : length (gateAt from v .ins) ≡ countAt from v
-  length-gate = ap length (ins-gate from v) ∙ length-insAt from v
-
   module _ (n : ℕ) (en : n ≡ countAt from v) where
     pub push-gate-full : 2048 - at < n → Grew l l v at (gateAt from v) Full
-    push-gate-full h = grew-full l l v at (gateAt from v) (omega (arith, length-gate, P .packed .room))
+    push-gate-full h = grew-full l l v at (gateAt from v) (omega (arith, length-ins from v, P .packed .room))
 
     pub push-gate-done : n ≤ 2048 - at → (m : List ℕ) → m ≡ putCopy from l v at → Grew l m v at (gateAt from v) (To (at + n))
     push-gate-done h m em =
         let room : at + countAt from v ≤ 2048 = omega (arith, P .packed .room) in
         record {
-          answer = rw (length-gate, en) (sym (behind-fits at (countAt from v) room));
-          packed = λ _. rw (length-gate, em) (packed-putCopy from l v at (P .packed) (P .node) room);
+          answer = rw (length-ins from v, en) (sym (behind-fits at (countAt from v) room));
+          packed = λ _. rw (length-ins from v, em) (packed-putCopy from l v at (P .packed) (P .node) room);
           nodes = λ _. rw em (nodesOf-putCopy from l v at (P .packed) (P .node) room);
         }
 
@@ -104,7 +101,7 @@ module _ (f : Family) (from l : List ℕ) (v limit at : ℕ) (M : Merges from l 
       merge-done K k o q eK ek eo eq =
           let c : end - at ≡ length gathered = omega (arith, end-is) in
           rw (merged-ins, end-is)
-          (grew-to l q v at (gateOf (wideOf f) gathered) (M .packed) (M .node) fits 0 0 refl (eq ∙ rw (eo, P .words fits, ek, eK, c)))
+          (grew-to l q v at (gateOf (wideOf f) gathered) (M .packed) (M .node) fits refl (eq ∙ rw (eo, P .words fits, ek, eK, c)))
 
 pub ruleset mergers = (merge-full, merge-from, merge-count, merge-long)
 

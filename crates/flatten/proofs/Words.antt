@@ -125,10 +125,10 @@ pub ruleset withins = (copy-start, within-copies, copy-read, copy-read-fits, cop
 
 -- ---- open_node
 
--- the inputs of node w of from, as a list
-pub insAt-words : (from l : List ℕ) (w at : ℕ) (m : List ℕ) → m ≡ putInputs l at (inputsFrom from (firstAt from w)) (countAt from w) → m ≡ putWords l at (insAt from w)
+-- the inputs of node w, as a list
+insAt-words : (l : List ℕ) (w at : ℕ) → putInputs l at (inputsFrom l (firstAt l w)) (countAt l w) ≡ putWords l at (insAt l w)
 unfolding insAt inputsFrom
-insAt-words from l w at m e = e ∙ putInputs-words l at (λ j. inputAt from (firstAt from w + j)) (countAt from w)
+insAt-words l w at = putInputs-words l at (λ j. inputAt l (firstAt l w + j)) (countAt l w)
 
 module _ (l : List ℕ) (v w at : ℕ) (P : Reading l v w at) where
   module _ (n : ℕ) (en : n ≡ countAt l w) where
@@ -150,7 +150,7 @@ module _ (l : List ℕ) (v w at : ℕ) (P : Reading l v w at) where
           let e : length (insAt l w) ≡ n = a ∙ sym en in
           record {
             answer = rw e (sym (behind-fits at n (omega arith)));
-            words = λ q. insAt-words l l w at m (em ∙ rw (en, ef));
+            words = λ q. em ∙ rw (en, ef) (insAt-words l w at);
           }
 
 pub ruleset openNodes = (open-full, open-within, open-done)
