@@ -33,7 +33,7 @@ pub extern "C" fn ll_canonical(
 ) -> u64
     ensures { λ r. ⌜ Exported2 (canonicalOutcome (now (image .entry)) (now (out .entry)) (now (map .entry)) (now (a .entry)) (now (b .entry))) (now (out .entry)) (now (map .entry)) (now (a .entry)) (now (b .entry)) r (now (out .exit)) (now (map .exit)) (now (a .exit)) (now (b .exit)) ⌝ }
 {
-    pack(lanternlean::canonical::canonical(image, out, map, a, b))
+    pack(network::canonical::canonical(image, out, map, a, b))
 }
 
 #[no_mangle]
@@ -46,7 +46,7 @@ pub extern "C" fn ll_dedup(
 ) -> u64
     ensures { λ r. ⌜ Exported2 (dedupOutcome (now (image .entry)) (now (out .entry)) (now (map .entry)) (now (a .entry)) (now (b .entry))) (now (out .entry)) (now (map .entry)) (now (a .entry)) (now (b .entry)) r (now (out .exit)) (now (map .exit)) (now (a .exit)) (now (b .exit)) ⌝ }
 {
-    pack(lanternlean::deduplicate::dedup(image, out, map, a, b))
+    pack(network::deduplicate::dedup(image, out, map, a, b))
 }
 
 #[no_mangle]
@@ -59,7 +59,7 @@ pub extern "C" fn ll_cleanup(
 ) -> u64
     ensures { λ r. ⌜ Exported2 (cleanupOutcome (now (image .entry)) (now (out .entry)) (now (map .entry)) (now (a .entry)) (now (b .entry))) (now (out .entry)) (now (map .entry)) (now (a .entry)) (now (b .entry)) r (now (out .exit)) (now (map .exit)) (now (a .exit)) (now (b .exit)) ⌝ }
 {
-    pack(lanternlean::cleaning::cleanup(image, out, map, a, b))
+    pack(network::cleaning::cleanup(image, out, map, a, b))
 }
 
 #[no_mangle]
@@ -72,7 +72,7 @@ pub extern "C" fn ll_sort(
 ) -> u64
     ensures { λ r. ⌜ Exported2 (sortOutcome (now (image .entry)) (now (out .entry)) (now (map .entry)) (now (a .entry)) (now (b .entry))) (now (out .entry)) (now (map .entry)) (now (a .entry)) (now (b .entry)) r (now (out .exit)) (now (map .exit)) (now (a .exit)) (now (b .exit)) ⌝ }
 {
-    pack(lanternlean::sort::sort(image, out, map, a, b))
+    pack(network::sort::sort(image, out, map, a, b))
 }
 
 #[no_mangle]

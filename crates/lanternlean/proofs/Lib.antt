@@ -1,4 +1,2 @@
 pub mod Working
-pub mod Merging
-pub mod Mappings
 pub mod Unique

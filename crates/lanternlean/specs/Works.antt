@@ -1,51 +1,12 @@
--- Each entry's outcome behind 1, from the image and the lengths lent.
-use Prim.Native.Nat.{ℕ, _≤_}
-use mathlib.Core.Bool.{Bool, cond}
+-- The outcomes of read and evaluate behind 1, from the image and the lengths lent.
+use Prim.Native.Nat.{ℕ}
 use mathlib.Core.List.{List, []}
-use lib.ListN.{length}
-use Rattle.model.specs.Gate.{Net, size}
-use Rattle.model.specs.Network.{translation, mappingOf, dedupWith, dedupMap, cleanupOrder, cleanup, topoOrder, topoSort, sorts}
 use Rattle.model.specs.Image.{refusalOf, sortedRefusalOf, netOf, imageOf}
-use Rattle.model.specs.Answers.{Outcome, refused, written, inRoom, unless}
+use Rattle.model.specs.Answers.{Outcome, written, inRoom, unless}
 use Rattle.model.specs.Entries.{cycleOutcome}
-use Rattle.tables.specs.Layout.{span}
-use Rattle.tables.specs.Holding.{Held}
-use Rattle.tables.specs.declared.counts.Counts.{Counts}
-use Rattle.dedup.specs.Lists.{normOf}
 
 unfoldable pub readWork : List ℕ → ℕ → Outcome
 readWork img room = inRoom room 0 (unless (refusalOf img) (written (imageOf (netOf img)) []))
 
 unfoldable pub evaluateWork : List ℕ → List ℕ → List ℕ → ℕ → Outcome
 evaluateWork img inputs state room = unless (sortedRefusalOf img) (cycleOutcome (netOf img) inputs state room)
-
--- canonical and dedup: by the normalization, and the lengths lent for the image and the mapping
-unfoldable pub dedupWork : Bool → List ℕ → ℕ → ℕ → Outcome
-dedupWork can img room words =
-    let N = netOf img in
-    inRoom room words (unless (sortedRefusalOf img) (written (imageOf (dedupWith (normOf can) N)) (mappingOf (size N) (dedupMap (normOf can) N))))
-
--- ---- the entries that write a mapping too
-
--- a network in one area, and the other to work in
-pub record Passable (from to : List ℕ) (c : Counts) : Type 0 where
-  pub held : Held from c
-  pub room : span ≤ length to
-
--- what a pass makes of a network, by the lengths lent for the image and for the mapping
-abbrev pub passed : (Net → Outcome) → Net → ℕ → ℕ → Outcome
-passed pass N room mapping = inRoom room mapping (pass N)
-
-unfoldable pub cleanupPass : Net → Outcome
-cleanupPass N = written (imageOf (cleanup N)) (mappingOf (size N) (translation (size N) (cleanupOrder N)))
-
-unfoldable pub cleanupWork : List ℕ → ℕ → ℕ → Outcome
-unfolding cleanupPass
-cleanupWork img room mapping = inRoom room mapping (unless (refusalOf img) (cleanupPass (netOf img)))
-
-unfoldable pub sortPass : Net → Outcome
-sortPass N = cond (sorts N) (written (imageOf (topoSort N)) (mappingOf (size N) (translation (size N) (topoOrder N)))) (refused 8)
-
-unfoldable pub sortWork : List ℕ → ℕ → ℕ → Outcome
-unfolding sortPass
-sortWork img room mapping = inRoom room mapping (unless (refusalOf img) (sortPass (netOf img)))

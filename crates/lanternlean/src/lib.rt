@@ -1,9 +1,4 @@
-// The public entries: each promises its answer and every lent word afterwards, for every input.
-pub mod canonical;
-pub mod cleaning;
-pub mod deduplicate;
+// The public entries that read: each promises its answer and every lent word afterwards, for every input.
 pub mod evaluation;
-mod merged;
 pub mod read;
 pub mod record;
-pub mod sort;

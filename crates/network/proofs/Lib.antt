@@ -1,0 +1,3 @@
+pub mod Merging
+pub mod Mappings
+pub mod Unique

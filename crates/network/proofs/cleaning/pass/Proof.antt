@@ -1,0 +1,15 @@
+use borrow.Author.Needs.{needs}
+use Rattle.network.proofs.Mappings.{passes}
+use Rattle.network.proofs.cleaning.pass.Statement.{statement}
+use Rattle.network.proofs.cleaning.pass.Tie as tie
+
+pub pass-spec : {M : Type 1} → statement M
+pass-spec =
+    tie.close
+    (tie.spec
+    (λ c κs. search (needs, passes))
+    (λ c κs. search (needs, passes))
+    (λ c. search (needs, passes))
+    (λ c. search (needs, passes))
+    (λ c. search (needs, passes))
+    (λ c. search (needs, passes)))

@@ -1,0 +1,20 @@
+use Rattle.model.specs.Entries.{dedupOutcome}
+use Rattle.network.specs.Works.{dedupWork}
+use borrow.Author.Needs.{needs}
+use Rattle.network.proofs.deduplicate.dedup.Statement.{statement}
+use Rattle.network.proofs.deduplicate.dedup.Tie as tie
+
+returns : tie.Need-returns
+unfolding dedupOutcome dedupWork
+returns c = c .before .before .before .before .before .before .before .before .merged .ensures
+
+pub dedup-spec : {M : Type 1} → statement M
+dedup-spec =
+    tie.close
+    (tie.spec
+    (λ c κs. search needs)
+    (λ c. search needs)
+    (λ c. search needs)
+    (λ c. search needs)
+    (λ c. search needs)
+    returns)
