@@ -1,0 +1,28 @@
+use Prim.Native.Nat.{_-_}
+use lib.ListN.{length}
+use borrow.Author.Needs.{needs}
+use Rattle.hand_cases.proofs.print_words.Statement.{statement}
+use Rattle.hand_cases.proofs.print_words.Tie as tie
+
+abbrev Inv-loop : tie.InvT-loop
+Inv-loop image i₀ t3 i = Unit {0}
+
+abbrev μ-loop : tie.MeasureT-loop
+μ-loop image i₀ t3 i = length image - i
+
+pub print-words-spec : {M : Type 1} → statement M
+print-words-spec =
+    tie.close
+    (tie.spec
+    Inv-loop
+    μ-loop
+    (λ c. search needs)
+    (λ c. search needs)
+    (λ c κs. search needs)
+    (λ c κs. search needs)
+    (λ c. search needs)
+    (λ c κs. search needs)
+    (λ c. search needs)
+    (λ c. search needs)
+    (λ c. search needs)
+    (λ c. search needs))
