@@ -1,7 +1,10 @@
 use borrow.Author.Needs.{needs}
-use Rattle.pairs.proofs.Walks.{holdss}
+use Rattle.pairs.proofs.Walks.{holds-yes, holdss}
 use Rattle.pairs.proofs.best.holds_both.Statement.{statement}
 use Rattle.pairs.proofs.best.holds_both.Tie as tie
+
+returns : tie.Need-returns
+returns c = holds-yes _ _ _ _ _ (c .before .before .has-signal .ensures) (c .before .if1 .taken) _ (c .has-signal2 .ensures)
 
 pub holds-both-spec : {M : Type 1} → statement M
 holds-both-spec =
@@ -9,5 +12,5 @@ holds-both-spec =
     (tie.spec
     (λ c κs. search (needs, holdss))
     (λ c κs. search (needs, holdss))
-    (λ c. search (needs, holdss))
+    returns
     (λ c. search (needs, holdss)))

@@ -1,7 +1,10 @@
 use borrow.Author.Needs.{needs}
-use Rattle.pairs.proofs.Walks.{winss}
+use Rattle.pairs.proofs.Walks.{wins-5, winss}
 use Rattle.pairs.proofs.best.wins.Statement.{statement}
 use Rattle.pairs.proofs.best.wins.Tie as tie
+
+returns-5 : tie.Need-returns-5
+returns-5 c = wins-5 _ _ _ _ (c .before .before .before .before .before .before .before .if1 .left) (c .before .before .before .before .before .if2 .left) (c .before .before .before .if3 .left) (c .before .if4 .left)
 
 pub wins-spec : {M : Type 1} → statement M
 wins-spec =
@@ -11,4 +14,4 @@ wins-spec =
     (λ c. search (needs, winss))
     (λ c. search (needs, winss))
     (λ c. search (needs, winss))
-    (λ c. search (needs, winss)))
+    returns-5)
