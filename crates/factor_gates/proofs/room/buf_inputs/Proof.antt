@@ -1,6 +1,6 @@
 use Prim.Native.Nat.{_-_}
 use borrow.Author.Needs.{needs}
-use Rattle.factor_gates.proofs.Rooms.{Summing, sums}
+use Rattle.factor_gates.proofs.Rooms.{Summing, sum-taken, sums}
 use Rattle.factor_gates.proofs.room.buf_inputs.Statement.{statement}
 use Rattle.factor_gates.proofs.room.buf_inputs.Tie as tie
 
@@ -9,6 +9,9 @@ Inv-loop from n f t₀ v₀ t v = Summing f from n t v
 
 abbrev μ-loop : tie.MeasureT-loop
 μ-loop from n f t₀ v₀ t v = n - v
+
+loop-again : tie.Need-loop-again Inv-loop μ-loop
+loop-again c = sum-taken _ _ _ _ _ (c .before .before .before .loop .inv) (c .before .before .before .before .before .pre) (c .before .before .loop-test .taken) _ (c .before .takes .ensures) (c .if1 .taken)
 
 pub buf-inputs-spec : {M : Type 1} → statement M
 buf-inputs-spec =
@@ -21,7 +24,7 @@ buf-inputs-spec =
     (λ c. search (needs, sums))
     (λ c. search (needs, sums))
     (λ c. search (needs, sums))
-    (λ c. search (needs, sums))
+    loop-again
     (λ c κs. search (needs, sums))
     (λ c. search (needs, sums))
     (λ c. search (needs, sums))
