@@ -1,8 +1,11 @@
 use borrow.Author.Needs.{needs}
 use Rattle.share_logic.proofs.Staging.{stages}
-use Rattle.share_logic.proofs.Sharing.{shares}
+use Rattle.share_logic.proofs.Sharing.{pass-pairs, shares}
 use Rattle.share_logic.proofs.factor.factor_gates.Statement.{statement}
 use Rattle.share_logic.proofs.factor.factor_gates.Tie as tie
+
+returns : tie.Need-returns
+returns c = pass-pairs _ _ _ (c .before .before .before .before .before .before .before .before .before .pre) _ _ _ (c .before .before .before .before .factor-pass .ensures) _ (search needs)
 
 pub factor-gates-spec : {M : Type 1} → statement M
 factor-gates-spec =
@@ -15,7 +18,7 @@ factor-gates-spec =
     (λ c κs. search (needs, stages, shares))
     (λ c. search needs)
     (λ c. search needs)
-    (λ c. search (needs, stages, shares))
+    returns
     (λ c. search needs)
     (λ c. search needs)
     (λ c. search (needs, stages, shares))

@@ -1,8 +1,11 @@
 use borrow.Author.Needs.{needs}
 use Rattle.share_logic.proofs.Staging.{stages}
-use Rattle.share_logic.proofs.Sharing.{shares}
+use Rattle.share_logic.proofs.Sharing.{factor-left, shares}
 use Rattle.share_logic.proofs.factor.factor_nary.Statement.{statement}
 use Rattle.share_logic.proofs.factor.factor_nary.Tie as tie
+
+returns-2 : tie.Need-returns-2
+returns-2 c = factor-left _ _ _ (c .before .before .before .before .before .before .before .before .before .before .before .before .before .before .factor-gates .ensures) _ (search needs) _ _ (c .before .before .before .before .factor-gates2 .ensures)
 
 pub factor-nary-spec : {M : Type 1} → statement M
 factor-nary-spec =
@@ -17,4 +20,4 @@ factor-nary-spec =
     (λ c. search (needs, stages, shares))
     (λ c. search needs)
     (λ c. search needs)
-    (λ c. search (needs, stages, shares)))
+    returns-2)
