@@ -1,10 +1,11 @@
+use native.Mathlib.Omega.{arith}
 use Prim.Native.Nat.{_-_, _≤_}
 use mathlib.Core.Path.{_≡_}
 use lib.ListN.{length}
 use borrow.Author.Needs.{needs}
 use Rattle.pairs.specs.Lists.{Laid}
 use Rattle.pairs.specs.Words.{replacedAll}
-use Rattle.pairs.proofs.Gates.{swaps}
+use Rattle.pairs.proofs.Gates.{swap-laid, swap-step, swaps}
 use Rattle.pairs.proofs.replace.swap_all.Statement.{statement}
 use Rattle.pairs.proofs.replace.swap_all.Tie as tie
 
@@ -13,6 +14,9 @@ Inv-loop area₀ g a b z i₀ area i = (i ≤ g) × (length area ≡ length area
 
 abbrev μ-loop : tie.MeasureT-loop
 μ-loop area₀ g a b z i₀ area i = g - i
+
+loop-again : tie.Need-loop-again Inv-loop μ-loop
+loop-again c = (omega arith, search needs, swap-laid _ _ _ _ _ _ _ (c .before .before .replace-in .ensures) (c .before .before .before .before .before .loop .inv .2) (omega arith), swap-step _ 0 _ _ _ _ _ (c .before .before .before .before .before .loop .inv .3) _ (c .before .before .replace-in .ensures))
 
 pub swap-all-spec : {M : Type 1} → statement M
 swap-all-spec =
@@ -24,6 +28,6 @@ swap-all-spec =
     (λ c κs. search (needs, swaps))
     (λ c. search (needs, swaps))
     (λ c. search (needs, swaps))
-    (λ c. search (needs, swaps))
+    loop-again
     (λ c. search (needs, swaps))
     (λ c. search (needs, swaps)))
