@@ -61,15 +61,19 @@ module _ (f t : List ℕ) (v first count c : ℕ) (g : Gated f t v) (p : first �
     unfolding gateValueAt lutValue kindOf valueOf
     lut-value k b d e h = let z : kindAt f v ≡ 14 = sym r ∙ e ∙ d in rw (z, ← p, ← q) h
 
-    pub other-value : (k l n : ℕ) (kd : Kind) (b : Bool) → k ≡ 5 → c ≢ k → l ≡ 14 → c ≢ l → kd ≡ kindOf c → n ≡ onesTo (inputValue f t first) count
-        → b ≡ onesValue kd count n → b ≡ gateValueAt f t v
+    pub kind-fits : (kd : Kind) → kd ≡ kindOf c → fitsKind kd count ≡ true
+    kind-fits kd z = rw (z, q) fits
+
+    pub other-value : (k l : ℕ) (kd : Kind) (b : Bool) → k ≡ 5 → c ≢ k → l ≡ 14 → c ≢ l → kd ≡ kindOf c
+        → b ≡ onesValue kd count (onesTo (inputValue f t first) count) → b ≡ gateValueAt f t v
     unfolding gateValueAt fitsCode
-    other-value k l n kd b d x e y z u h =
+    other-value k l kd b d x e y z h =
+        let n : ℕ = onesTo (inputValue f t first) count in
         let s : c < 15 = ltb-true c 15 (rw r (and-left (ltb (kindAt f v) 15) _ (g .fits))) in
         let m : codeOf (kindOf c) ≡ c = code-kind c s in
-        let w : valueOf (kindOf c) (tab (inputValue f t first) count) (lowAt f v + 2 ^ 32 * highAt f v) ≡ onesValue (kindOf c) count (onesTo (inputValue f t first) count) =
+        let w : valueOf (kindOf c) (tab (inputValue f t first) count) (lowAt f v + 2 ^ 32 * highAt f v) ≡ onesValue (kindOf c) count n =
         ones-value (inputValue f t first) (kindOf c) count (lowAt f v + 2 ^ 32 * highAt f v) (λ a. x (sym m ∙ a ∙ sym d)) (λ a. y (sym m ∙ a ∙ sym e)) (rw q fits) in
-        h ∙ ap (λ (o : Kind). onesValue o count n) z ∙ ap (onesValue (kindOf c) count) u ∙ sym w ∙ rw (r, p, q)
+        h ∙ ap (λ (o : Kind). onesValue o count n) z ∙ sym w ∙ rw (r, p, q)
 
 -- ---- what a node shows
 
@@ -81,4 +85,4 @@ pub shown-value : (f t st : List ℕ) (v : ℕ) (b r : Bool) → b ≡ dffAt f v
 unfolding shownAt
 shown-value f t st v b r p e h = rw (← p, e) h
 
-pub ruleset ways = (weight-inside, lut-is, mux-reads, mux-value, gate-reads, lut-short, lut-value, other-value, shown-state, shown-value)
+pub ruleset ways = (weight-inside, lut-is, mux-reads, mux-value, gate-reads, lut-short, lut-value, kind-fits, other-value, shown-state, shown-value)

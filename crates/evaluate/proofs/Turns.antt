@@ -37,7 +37,7 @@ pub slot-is : (s m r : ℕ) → m ≡ bitAnd (s / 2) 2047 → r ≡ m → r ≡ 
 slot-is s m r e f = f ∙ e ∙ mask-slot s
 
 -- a bit is at most one
-bit-low : (b : Bool) → bit b ≤ 1
+pub bit-low : (b : Bool) → bit b ≤ 1
 bit-low true = omega arith
 bit-low false = omega arith
 

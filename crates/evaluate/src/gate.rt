@@ -1,10 +1,13 @@
 // One node's value from the values before it.
 ghost use mathlib.Core.Path.{_≡_};
-ghost use mathlib.Core.Bool.{cond};
+ghost use mathlib.Core.Bool.{true, cond};
 ghost use Prim.Native.Nat.{_+_, _<_, _≤_};
+ghost use lib.Dec.{eqb, ltb};
 ghost use lib.ListN.{length};
+ghost use Rattle.model.specs.Gate.{fitsKind};
 ghost use Rattle.tables.specs.Layout.{netSize};
-ghost use Rattle.evaluate.specs.Values.{inputValue, onesValue, lutValue, gateValueAt, dffAt, shownAt, Reads, Gated};
+ghost use Rattle.evaluate.specs.Values.{isOdd, inputValue, onesTo, onesValue, lutValue, gateValueAt, dffAt, shownAt, Reads, Gated};
+use crate::values::all_are;
 use crate::values::ones;
 use crate::values::value;
 use crate::values::weight;
@@ -20,24 +23,60 @@ use tables::layout::kind_at;
 use tables::layout::low_at;
 use tables::layout::wide;
 
-// By the number n of the inputs that are one, where that is all that matters.
-fn by_ones(k: Kind, count: usize, n: usize) -> bool
-    ensures { λ r. ⌜ r ≡ onesValue k count n ⌝ }
+// The short gates, without a loop.
+fn buf(from: &[u32], to: &[u32], first: usize) -> bool
+    requires { ⌜ Reads (now from) (now to) first 1 ⌝ }
+    ensures { λ r. ⌜ r ≡ ltb 0 (onesTo (inputValue (now (from .entry)) (now (to .entry)) first) 1) ⌝ }
+{
+    value(to, input_at(from, first))
+}
+
+fn and_2(from: &[u32], to: &[u32], first: usize) -> bool
+    requires { ⌜ Reads (now from) (now to) first 2 ⌝ }
+    ensures { λ r. ⌜ r ≡ eqb (onesTo (inputValue (now (from .entry)) (now (to .entry)) first) 2) 2 ⌝ }
+{
+    let a = value(to, input_at(from, first));
+    let b = value(to, input_at(from, first + 1));
+    a & b
+}
+
+fn xor_2(from: &[u32], to: &[u32], first: usize) -> bool
+    requires { ⌜ Reads (now from) (now to) first 2 ⌝ }
+    ensures { λ r. ⌜ r ≡ isOdd (onesTo (inputValue (now (from .entry)) (now (to .entry)) first) 2) ⌝ }
+{
+    let a = value(to, input_at(from, first));
+    let b = value(to, input_at(from, first + 1));
+    a ^ b
+}
+
+// Whether an odd number of inputs are one.
+fn odd(from: &[u32], to: &[u32], first: usize, count: usize) -> bool
+    requires { ⌜ Reads (now from) (now to) first count ⌝ }
+    ensures { λ r. ⌜ r ≡ isOdd (onesTo (inputValue (now (from .entry)) (now (to .entry)) first) count) ⌝ }
+{
+    ones(from, to, first, count) & 1 == 1
+}
+
+// By the number of the inputs that are one, where that is all that matters; an And or an Or goes no further than the input that
+// decides.
+fn by_ones(from: &[u32], to: &[u32], k: Kind, first: usize, count: usize) -> bool
+    requires { ⌜ Reads (now from) (now to) first count × (fitsKind k count ≡ true) ⌝ }
+    ensures { λ r. ⌜ r ≡ onesValue k count (onesTo (inputValue (now (from .entry)) (now (to .entry)) first) count) ⌝ }
 {
     match k {
-        Kind::And2 => n == count,
-        Kind::Xor2 => n & 1 == 1,
-        Kind::And3 => n == count,
-        Kind::Xor3 => n & 1 == 1,
-        Kind::Maj => 1 < n,
+        Kind::And2 => and_2(from, to, first),
+        Kind::Xor2 => xor_2(from, to, first),
+        Kind::And3 => all_are(from, to, first, count, true),
+        Kind::Xor3 => odd(from, to, first, count),
+        Kind::Maj => 1 < ones(from, to, first, count),
         Kind::Mux => false,
-        Kind::AndN => n == count,
-        Kind::OrN => 0 < n,
-        Kind::NandN => n != count,
-        Kind::NorN => n == 0,
-        Kind::XorN => n & 1 == 1,
-        Kind::XnorN => n & 1 != 1,
-        Kind::Buf => 0 < n,
+        Kind::AndN => all_are(from, to, first, count, true),
+        Kind::OrN => !all_are(from, to, first, count, false),
+        Kind::NandN => !all_are(from, to, first, count, true),
+        Kind::NorN => all_are(from, to, first, count, false),
+        Kind::XorN => odd(from, to, first, count),
+        Kind::XnorN => !odd(from, to, first, count),
+        Kind::Buf => buf(from, to, first),
         Kind::Dff => false,
         Kind::Lut => false,
     }
@@ -77,7 +116,7 @@ fn gate_value(from: &[u32], to: &[u32], v: usize) -> bool
     if c == code(Kind::Lut) {
         return lut(from, to, v, first, count);
     }
-    by_ones(kind_of(c), count, ones(from, to, first, count))
+    by_ones(from, to, kind_of(c), first, count)
 }
 
 pub fn is_dff(from: &[u32], v: usize) -> bool

@@ -1,7 +1,9 @@
 // The values of a cycle, a word for each index that a signal can have: the constant's, the nodes', and from the far end the
 // inputs'. A signal's value is one reading.
 ghost use mathlib.Core.Path.{_≡_};
+ghost use mathlib.Core.Bool.{cond};
 ghost use Prim.Native.Nat.{_+_, _<_, _≤_};
+ghost use lib.Dec.{eqb};
 ghost use lib.ListN.{length};
 ghost use Rattle.laws.specs.Bools.{bit};
 ghost use Rattle.laws.specs.Lists.{tab};
@@ -48,6 +50,21 @@ pub fn ones(from: &[u32], to: &[u32], first: usize, count: usize) -> usize
         j += 1;
     }
     n
+}
+
+// Whether each of a gate's inputs is b: no further than the first that is not.
+pub fn all_are(from: &[u32], to: &[u32], first: usize, count: usize, b: bool) -> bool
+    requires { ⌜ Reads (now from) (now to) first count ⌝ }
+    ensures { λ r. ⌜ r ≡ eqb (onesTo (inputValue (now (from .entry)) (now (to .entry)) first) count) (cond b count 0) ⌝ }
+{
+    let mut j: usize = 0;
+    while j < count {
+        if value(to, input_at(from, first + j)) ^ b {
+            return false;
+        }
+        j += 1;
+    }
+    true
 }
 
 // The number that a Lut's inputs make, input k with weight 2^k.

@@ -19,5 +19,4 @@ gate-value-spec =
     (λ c. search (needs, ways))
     (λ c κs. search (needs, ways))
     (λ c κs. search (needs, ways))
-    (λ c κs. search (needs, ways))
     (λ c. search (needs, ways)))
