@@ -129,6 +129,12 @@ cell-numbered l z (suc n) v h q = elim (ℕ-discrete v n) [
   | no e ↦ cell-store-other (numbered l n) trBase n (fromVar n) trBase v (omega arith) ∙ cell-numbered l z n v (omega arith) (omega arith)
 ]
 
+-- words behind the table stay
+pub cell-numbered-past : (l : List ℕ) (n c j : ℕ) → n ≤ 512 → trBase + 512 ≤ c + j → cell (numbered l n) c j ≡ cell l c j
+unfolding numbered
+cell-numbered-past l zero c j h q = refl
+cell-numbered-past l (suc n) c j h q = cell-store-other (numbered l n) trBase n (fromVar n) c j (omega arith) ∙ cell-numbered-past l n c j (omega arith) q
+
 pub trOf-numbered : (l : List ℕ) → 16384 ≤ length l → (n v : ℕ) → n ≤ 512 → v < n → trOf (numbered l n) v ≡ fromVar v
 trOf-numbered l z n v h q = trOf-cell (numbered l n) (rw length-numbered z) v (omega arith) ∙ cell-numbered l z n v h q
 

@@ -1,5 +1,6 @@
 pub mod Areas
 pub mod Searches
+pub mod Chains
 pub mod Standing
 pub mod Lookups
 pub mod Sweeps

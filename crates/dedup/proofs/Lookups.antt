@@ -30,10 +30,11 @@ use Rattle.gates.specs.Normals.{normalOf, Listed, Shaped}
 use Rattle.shape.proofs.DedupNormal.{NormLaw, asIs-law, canonical-law, made-few}
 use Rattle.shape.proofs.DedupSweep.{shaped-remap}
 use Rattle.dedup.specs.Lists.{listBase, trOf, lookedUp, gathered, normOf, listed, withTable, countOf}
+use Rattle.dedup.specs.Chains.{headBase, linkBase}
 use Rattle.dedup.specs.States.{Stands, workOf, Room, Settles, Asks, Did, askedGate}
 use Rattle.dedup.specs.declared.Built.{Built}
 use Rattle.dedup.proofs.Areas.{trOf-same, trOf-gathered, length-gathered, cell-gathered, listed-gathered}
-use Rattle.dedup.proofs.Standing.{stands-agree, nodesOf-agree, work≡}
+use Rattle.dedup.proofs.Standing.{stands-agree, chained-agree, nodesOf-agree, work≡}
 
 -- dedup's two normalizations keep their law
 pub norm-law : (c : Bool) → NormLaw (normOf c)
@@ -246,16 +247,23 @@ module _ (src l : List ℕ) (v : ℕ) (b : Built) (A : Asks src l v b) (c can : 
       same-long : length (back m ys) ≡ length l
       same-long = length-back m ys long-m ey ∙ ap length is-filled ∙ length-gathered src l c (firstAt src v) (countAt src v)
 
-      same-trans : trOf (back m ys) ≡ trOf l
+      same-cell : (c j : ℕ) → c + j < listBase → cell (back m ys) c j ≡ cell l c j
       unfolding cell
-      same-trans = trOf-same (back m ys) l (rw same-long (A .room .stands .long)) (A .room .stands .long)
-          (λ w h. getD-back m ys long-m (trBase + w) (omega arith) ∙ ap (λ (x : List ℕ). getD x (trBase + w) 0) is-filled ∙ filled-same (trBase + w) (omega arith))
+      same-cell c j h = getD-back m ys long-m (c + j) h ∙ ap (λ (x : List ℕ). getD x (c + j) 0) is-filled ∙ filled-same (c + j) h
+
+      same-trans : trOf (back m ys) ≡ trOf l
+      same-trans = trOf-same (back m ys) l (rw same-long (A .room .stands .long)) (A .room .stands .long) (λ w h. same-cell trBase w (omega arith))
 
       pub asks-settle : Settles (back m ys) v b r
       asks-settle =
           let f = A .room .fits in
           record {
-            room = record { stands = stands-agree l (back m ys) agrees same-long b (A .room .stands); more = A .room .more; fits = omega (arith, count-few) };
+            room = record {
+              stands = stands-agree l (back m ys) agrees same-long b (A .room .stands);
+              chained = chained-agree l (back m ys) agrees same-long b (A .room .stands) (A .room .chained) (λ h q. same-cell headBase h (omega arith)) (λ w q. same-cell linkBase w (omega arith));
+              more = A .room .more;
+              fits = omega (arith, count-few);
+            };
             node = A .node;
           }
 
@@ -266,6 +274,6 @@ module _ (src l : List ℕ) (v : ℕ) (b : Built) (A : Asks src l v b) (c can : 
           let nm : withTable (lo + 2 ^ 32 * hi) (normalOf r (drop listBase (back m ys))) ≡ normOf can gate =
           ap₂ withTable t (ap (normalOf r) (drop-back m ys long-m)) ∙ normal-is in
           let w : workOf (back m ys) b ≡ workOf l b = work≡ same-trans (nodesOf-agree l (back m ys) agrees same-long b (A .room .stands) (b .nodes) (omega arith)) in
-          record { stands = D .stands; work = D .work ∙ ap₂ (λ (x : Norm) (d : Work). dedupNode x v d) nm w }
+          record { stands = D .stands; chained = D .chained; work = D .work ∙ ap₂ (λ (x : Norm) (d : Work). dedupNode x v d) nm w }
 
 pub ruleset lookups = (asks-normal, asks-settle, node-did)

@@ -130,20 +130,3 @@ find-here g h (x ∷ l) e f = go (sameGate g x) (findGate g l) e (find-here g h 
 
 pub searched-less : (l : List ℕ) (n w : ℕ) → Searched l n → w < n → Searched l (w + 1)
 searched-less l n w s h = let few = s .few in record { long = s .long; few = omega arith; ends = λ u q. s .ends u (omega arith) }
-
-module _ (g : Gate) (l : List ℕ) where
-  pub searched-start : findGate g (nodesOf l 0) ≡ none
-  unfolding nodesOf tab findGate
-  searched-start = refl
-
-  pub searched-next : (w : ℕ) → findGate g (nodesOf l w) ≡ none → false ≡ sameGate g (gateAt l w) → findGate g (nodesOf l (w + 1)) ≡ none
-  unfolding nodesOf tab
-  searched-next w e f = rw add-one (find-none g (gateAt l w) (tab (gateAt l) w) e (sym f))
-
-  pub searched-hit : (n w : ℕ) → w < n → findGate g (nodesOf l w) ≡ none → true ≡ sameGate g (gateAt l w) → some w ≡ findGate g (nodesOf l n)
-  unfolding nodesOf tab
-  searched-hit zero w h e f = absurd (omega arith)
-  searched-hit (suc n) w h e f = elim (ℕ-discrete w n) [
-    | yes q ↦ rw (← q) (ap some (sym (length-tab (gateAt l) w)) ∙ sym (find-here g (gateAt l w) (tab (gateAt l) w) e (sym f)))
-    | no q ↦ sym (find-some g (gateAt l n) (tab (gateAt l) n) w (sym (searched-hit n w (omega arith) e f)))
-  ]

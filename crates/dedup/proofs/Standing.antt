@@ -19,9 +19,9 @@ use Rattle.model.specs.Normal.{Norm, copied, made, gateOf}
 use Rattle.model.specs.Network.{upd, findGate, Place, placeAt, place, Work, dedupNode}
 use Rattle.tables.specs.Layout.{netSize, trBase, kindAt, firstAt, countAt, inputAt, lowAt, highAt, insAt, gateAt, nodesOf, putGate, putInput, putTable, cell, store}
 use Rattle.tables.specs.Building.{Packed, putInputs, putNode}
-use Rattle.tables.proofs.Places.{Agree, kindAt-agree, firstAt-agree, countAt-agree, inputAt-agree, lowAt-agree, highAt-agree, length-store, firstAt-putTable, firstAt-putGate}
+use Rattle.tables.proofs.Places.{Agree, kindAt-agree, firstAt-agree, countAt-agree, inputAt-agree, lowAt-agree, highAt-agree, length-store, cell-store-other, firstAt-putTable, firstAt-putGate}
 use Rattle.tables.proofs.Gates.{gateAt-same}
-use Rattle.tables.proofs.Building.{length-putInputs, length-putNode, firstAt-putNode, gateAt-putNode-other, nodesOf-same, nodesOf-putNode, packed-putNode}
+use Rattle.tables.proofs.Building.{length-putInputs, length-putNode, cell-putNode, firstAt-putNode, gateAt-putNode, gateAt-putNode-other, nodesOf-same, nodesOf-putNode, packed-putNode}
 use Rattle.tables.proofs.Holding.{length-nodesOf, fanin-append, fanin-one}
 use Rattle.gates.specs.declared.Normalization.{Normalization}
 use Rattle.gates.specs.declared.Normalization.the-variants.{Copy, Node}
@@ -29,18 +29,69 @@ use Rattle.gates.specs.Normals.{normalOf}
 use Rattle.signal.specs.declared.Signal.{Signal}
 use Rattle.shape.proofs.DedupPlace.{find-at}
 use Rattle.dedup.specs.Lists.{listBase, trOf, listed, withTable, countOf, asOption, Searched}
+use Rattle.dedup.specs.Chains.{bucketOf, headBase, linkBase, Chained, joined, Seeks}
 use Rattle.dedup.specs.States.{Stands, workOf, Room, Appended, Placed, Settles, Did}
 use Rattle.dedup.specs.declared.Built.{Built}
 use Rattle.dedup.specs.declared.find.Found.{Found}
 use Rattle.dedup.specs.declared.find.Found.the-variants.{At, Nothing}
 use Rattle.dedup.specs.declared.place.Spot.{Spot}
 use Rattle.dedup.proofs.Areas.{trOf-same, trOf-store, trOf-putNode, part-tab}
+use Rattle.dedup.proofs.Chains.{chained-same, length-joined, cell-joined, chained-joined}
 
 -- what may be searched
-pub stands-searched : (l : List ℕ) (b : Built) → Stands l b → Searched l (b .nodes)
+stands-searched : (l : List ℕ) (b : Built) → Stands l b → Searched l (b .nodes)
 stands-searched l b s =
     let r = s .packed .room in
     record { long = s .long; few = s .packed .few; ends = λ w h. omega (arith, s .packed .ends w h) }
+
+-- ---- words outside the network
+
+module _ (l m : List ℕ) (a : Agree l m) (z : length m ≡ length l) where
+  gateAt-agree : (w : ℕ) → w < 512 → firstAt l w + countAt l w ≤ 2048 → gateAt m w ≡ gateAt l w
+  gateAt-agree w h e =
+      gateAt-same m l w w (kindAt-agree l m a w h) (countAt-agree l m a w h)
+      (λ j q. ap (λ (x : ℕ). inputAt m (x + j)) (firstAt-agree l m a w h) ∙ inputAt-agree l m a (firstAt l w + j) (omega arith))
+      (lowAt-agree l m a w h) (highAt-agree l m a w h)
+
+  module _ (b : Built) (s : Stands l b) where
+    pub nodesOf-agree : (v : ℕ) → v ≤ b .nodes → nodesOf m v ≡ nodesOf l v
+    nodesOf-agree v h =
+        let few = s .packed .few in
+        let r = s .packed .room in
+        nodesOf-same m l v (λ w q. gateAt-agree w (omega arith) (omega (arith, s .packed .ends w (omega arith))))
+
+    pub stands-agree : Stands m b
+    stands-agree =
+        let few = s .packed .few in
+        record {
+          long = rw z (s .long);
+          packed = record {
+            long = rw z (s .packed .long);
+            few = s .packed .few;
+            ends = λ w h. rw (firstAt-agree l m a w (omega arith), countAt-agree l m a w (omega arith)) (s .packed .ends w h);
+            room = s .packed .room;
+          };
+          firsts = λ v h. firstAt-agree l m a v (omega arith) ∙ s .firsts v h ∙ sym (ap fanin (nodesOf-agree v (omega arith)));
+          total = s .total ∙ sym (ap fanin (nodesOf-agree (b .nodes) (omega arith)));
+        }
+
+    pub chained-agree : Chained l (b .nodes) → ((h : ℕ) → h < 256 → cell m headBase h ≡ cell l headBase h) → ((v : ℕ) → v < 512 → cell m linkBase v ≡ cell l linkBase v) → Chained m (b .nodes)
+    chained-agree c hs ls =
+        let few = s .packed .few in
+        let r = s .packed .room in
+        chained-same l m (b .nodes) (λ w q. gateAt-agree w (omega arith) (omega (arith, s .packed .ends w q))) c hs ls few
+
+store-agree : (l : List ℕ) (b i x : ℕ) → netSize ≤ b → Agree l (store l b i x)
+unfolding store
+store-agree l b i x h j q = getD-set-other l (b + i) j x 0 (omega arith)
+
+joined-agree : (l : List ℕ) (v h : ℕ) → Agree l (joined l v h)
+unfolding joined
+joined-agree l v h i q = store-agree (store l linkBase v (cell l headBase h)) headBase h (v + 1) (omega arith) i q ∙ store-agree l linkBase v (cell l headBase h) (omega arith) i q
+
+-- where the gate in the list is searched for
+pub room-seeks : (l : List ℕ) (b : Built) (k n lo hi h : ℕ) → Room l b n → h ≡ bucketOf (listed l k n lo hi) → Seeks l (b .nodes) h (listed l k n lo hi)
+room-seeks l b k n lo hi h R e = record { searched = stands-searched l b (R .stands); chained = R .chained; bucket = e }
 
 -- ---- a gate appended
 
@@ -88,6 +139,47 @@ module _ (l : List ℕ) (b : Built) (k n lo hi : ℕ) (R : Room l b n) where
     total = rw (e, f) put-total;
   }
 
+  put-chained : Chained put (b .nodes)
+  put-chained =
+      let few = R .more in
+      chained-same l put (b .nodes)
+      (λ u q. gateAt-putNode-other l (b .nodes) k (b .fanin) (cell l listBase) n lo hi (R .more) (R .fits) long u (omega arith) (omega arith) (R .stands .packed .ends u q)) (R .chained)
+      (λ h q. cell-putNode l (b .nodes) k (b .fanin) (cell l listBase) n lo hi (R .more) (R .fits) headBase h (omega arith))
+      (λ v q. cell-putNode l (b .nodes) k (b .fanin) (cell l listBase) n lo hi (R .more) (R .fits) linkBase v (omega arith)) (omega arith)
+
+  put-gate : gateAt put (b .nodes) ≡ listed l k n lo hi
+  unfolding listed
+  put-gate = gateAt-putNode l (b .nodes) k (b .fanin) (cell l listBase) n lo hi (R .more) (R .fits) long
+
+  -- and put before its chain
+  module _ (h : ℕ) (eh : h ≡ bucketOf (listed l k n lo hi)) (r : Built) (rn : r .nodes ≡ b .nodes + 1) (rf : r .fanin ≡ b .fanin + n) where
+    abbrev grown : List ℕ
+    grown = joined put (b .nodes) h
+
+    abbrev long-put : 16384 ≤ length put
+    long-put = put-stands r rn rf .long
+
+    grown-chained : Chained grown (r .nodes)
+    grown-chained =
+        let st = put-stands r rn rf in
+        let few = R .more in
+        let room = st .packed .room in
+        rw rn (chained-joined put (b .nodes) h long-put put-chained (eh ∙ ap bucketOf (sym put-gate)) (R .more)
+        (λ v q. gateAt-agree put grown (joined-agree put (b .nodes) h) (length-joined put (b .nodes) h) v (omega arith) (omega (arith, st .packed .ends v (omega arith)))))
+
+    grown-stands : Stands grown r
+    grown-stands = stands-agree put grown (joined-agree put (b .nodes) h) (length-joined put (b .nodes) h) r (put-stands r rn rf)
+
+    grown-gates : nodesOf grown (r .nodes) ≡ nodesOf l (b .nodes) ++ (listed l k n lo hi ∷ [])
+    grown-gates =
+        nodesOf-agree put grown (joined-agree put (b .nodes) h) (length-joined put (b .nodes) h) r (put-stands r rn rf) (r .nodes) (omega arith)
+        ∙ ap (nodesOf put) rn ∙ put-gates
+
+    grown-trans : trOf grown ≡ trOf l
+    grown-trans =
+        trOf-same grown put (rw length-joined long-put) long-put (λ v q. cell-joined put (b .nodes) h trBase v (omega arith))
+        ∙ trOf-putNode l (R .stands .long) (b .nodes) k (b .fanin) (cell l listBase) n lo hi (R .more) (R .fits)
+
   -- THE TWO WAYS OF A LOOKUP
   pub place-found : (f : Found) (w : ℕ) (p : Spot) → asOption f ≡ findGate (listed l k n lo hi) (nodesOf l (b .nodes)) → f ≡ At w
       → p .built ≡ b → p .node ≡ w → Placed l l b (listed l k n lo hi) p
@@ -99,59 +191,27 @@ module _ (l : List ℕ) (b : Built) (k n lo hi : ℕ) (R : Room l b n) where
       record {
         stands = subst (λ (c : Built). Stands l c) (sym pb) (R .stands);
         gates = rw (s, pb);
+        chained = rw pb (R .chained);
         node-is = rw s pn;
         small = omega (arith, at .inside, length-nodesOf l (b .nodes));
         trans = refl;
       }
 
-  pub place-new : (m : List ℕ) (f : Found) (r : Built) (p : Spot) → asOption f ≡ findGate (listed l k n lo hi) (nodesOf l (b .nodes)) → f ≡ Nothing
-      → Appended l m b k n lo hi r → p .built ≡ r → p .node ≡ b .nodes → Placed l m b (listed l k n lo hi) p
+  pub place-new : (m : List ℕ) (h : ℕ) (f : Found) (r : Built) (p : Spot) → h ≡ bucketOf (listed l k n lo hi)
+      → asOption f ≡ findGate (listed l k n lo hi) (nodesOf l (b .nodes)) → f ≡ Nothing
+      → Appended l m b h k n lo hi r → p .built ≡ r → p .node ≡ b .nodes → Placed l m b (listed l k n lo hi) p
   unfolding place
-  place-new m f r p e q a pb pn =
+  place-new m h f r p eh e q a pb pn =
       let s : findGate (listed l k n lo hi) (nodesOf l (b .nodes)) ≡ none = sym e ∙ ap asOption q in
       let few = R .more in
       rw (a .words) (record {
-        stands = subst (λ (c : Built). Stands put c) (sym pb) (put-stands r (a .nodes-is) (a .fanin-is));
-        gates = rw (s, pb, a .nodes-is) put-gates;
+        stands = subst (λ (c : Built). Stands (grown h eh r (a .nodes-is) (a .fanin-is)) c) (sym pb) (grown-stands h eh r (a .nodes-is) (a .fanin-is));
+        chained = rw pb (grown-chained h eh r (a .nodes-is) (a .fanin-is));
+        gates = rw (s, pb) (grown-gates h eh r (a .nodes-is) (a .fanin-is));
         node-is = rw s (pn ∙ sym (length-nodesOf l (b .nodes)));
         small = omega arith;
-        trans = trOf-putNode l (R .stands .long) (b .nodes) k (b .fanin) (cell l listBase) n lo hi (R .more) (R .fits);
+        trans = grown-trans h eh r (a .nodes-is) (a .fanin-is);
       })
-
--- ---- words outside the network
-
-module _ (l m : List ℕ) (a : Agree l m) (z : length m ≡ length l) where
-  gateAt-agree : (w : ℕ) → w < 512 → firstAt l w + countAt l w ≤ 2048 → gateAt m w ≡ gateAt l w
-  gateAt-agree w h e =
-      gateAt-same m l w w (kindAt-agree l m a w h) (countAt-agree l m a w h)
-      (λ j q. ap (λ (x : ℕ). inputAt m (x + j)) (firstAt-agree l m a w h) ∙ inputAt-agree l m a (firstAt l w + j) (omega arith))
-      (lowAt-agree l m a w h) (highAt-agree l m a w h)
-
-  module _ (b : Built) (s : Stands l b) where
-    pub nodesOf-agree : (v : ℕ) → v ≤ b .nodes → nodesOf m v ≡ nodesOf l v
-    nodesOf-agree v h =
-        let few = s .packed .few in
-        let r = s .packed .room in
-        nodesOf-same m l v (λ w q. gateAt-agree w (omega arith) (omega (arith, s .packed .ends w (omega arith))))
-
-    pub stands-agree : Stands m b
-    stands-agree =
-        let few = s .packed .few in
-        record {
-          long = rw z (s .long);
-          packed = record {
-            long = rw z (s .packed .long);
-            few = s .packed .few;
-            ends = λ w h. rw (firstAt-agree l m a w (omega arith), countAt-agree l m a w (omega arith)) (s .packed .ends w h);
-            room = s .packed .room;
-          };
-          firsts = λ v h. firstAt-agree l m a v (omega arith) ∙ s .firsts v h ∙ sym (ap fanin (nodesOf-agree v (omega arith)));
-          total = s .total ∙ sym (ap fanin (nodesOf-agree (b .nodes) (omega arith)));
-        }
-
-store-agree : (l : List ℕ) (b i x : ℕ) → netSize ≤ b → Agree l (store l b i x)
-unfolding store
-store-agree l b i x h j q = getD-set-other l (b + i) j x 0 (omega arith)
 
 pub work≡ : {d e : Work} → d .trans ≡ e .trans → d .news ≡ e .news → d ≡ e
 work≡ p q = λ i. record { trans = p i; news = q i }
@@ -172,6 +232,7 @@ module _ (l : List ℕ) (v : ℕ) (b : Built) (r : Normalization) (S : Settles l
       let st = S .room .stands in
       rw w (record {
         stands = stands-agree l (store l trBase v x) a z b st;
+        chained = chained-agree l (store l trBase v x) a z b st (S .room .chained) (λ h q. cell-store-other l trBase v x headBase h (omega (arith, S .node))) (λ u q. cell-store-other l trBase v x linkBase u (omega (arith, S .node)));
         work = rw e (work≡ (trOf-store l v x (st .long) (S .node)) (nodesOf-agree l (store l trBase v x) a z b st (b .nodes) (omega arith)));
       })
 
@@ -190,11 +251,12 @@ module _ (l : List ℕ) (v : ℕ) (b : Built) (r : Normalization) (S : Settles l
       let signal : y ≡ flip (fromVar (place (listed l c n lo hi) (nodesOf l (b .nodes)) .pos)) t = ey ∙ ap (λ (q : ℕ). flip q t) (ex ∙ ap (λ (q : ℕ). fromVar q) (P .node-is)) in
       rw w (record {
         stands = stands-agree m (store m trBase v y) a z (p .built) st;
+        chained = chained-agree m (store m trBase v y) a z (p .built) st (P .chained) (λ h q. cell-store-other m trBase v y headBase h (omega (arith, S .node))) (λ u q. cell-store-other m trBase v y linkBase u (omega (arith, S .node)));
         work = rw (e, ins, ← ec) (work≡
             (trOf-store m v y (st .long) (S .node) ∙ ap₂ (λ (τ : ℕ → ℕ) (q : ℕ). upd τ v q) (P .trans) signal)
             (nodesOf-agree m (store m trBase v y) a z (p .built) st (p .built .nodes) (omega arith) ∙ P .gates));
       })
 
-pub ruleset places = (stands-searched, place-found, place-new)
+pub ruleset places = (room-seeks, place-found, place-new)
 
 pub ruleset settles = (settle-room, settle-copy, settle-node)

@@ -26,9 +26,11 @@ use Rattle.shape.proofs.Named.{shaped-at, wired-ins}
 use Rattle.shape.proofs.DedupSweep.{fanin-total, length-total, isD, asked, upTo, upTo-turn, upTo-skip, upTo-over, upTo-start, upTo-trans, due, due-left, count, inputs}
 use Rattle.shape.proofs.Dedup.{remap-all}
 use Rattle.dedup.specs.Lists.{trOf, normOf}
+use Rattle.dedup.specs.Chains.{headBase, emptied}
 use Rattle.dedup.specs.States.{Stands, workOf, Room, Asks, Did, askedGate, Like, Sweeping, numbered, Dedupable}
 use Rattle.dedup.specs.declared.Built.{Built}
-use Rattle.dedup.proofs.Areas.{length-numbered, trOf-numbered}
+use Rattle.dedup.proofs.Areas.{length-numbered, cell-numbered-past, trOf-numbered}
+use Rattle.dedup.proofs.Chains.{chained-none, length-emptied, heads-emptied}
 use Rattle.dedup.proofs.Lookups.{norm-law}
 
 -- the code's test of the two kinds of sweep
@@ -109,7 +111,7 @@ module _ (src : List ℕ) (c : Counts) (can : Bool) (H : Held src c) where
             node = omega arith;
             ends = H .ends k h;
             is-shaped = gate-shaped k h;
-            room = record { stands = S .stands; more = omega arith; fits = omega arith };
+            room = record { stands = S .stands; chained = S .chained; more = omega arith; fits = omega arith };
           }
 
       -- the gate that the words ask for is the one that the model asks for
@@ -133,12 +135,13 @@ module _ (src : List ℕ) (c : Counts) (can : Bool) (H : Held src c) where
           subst (λ (x : Work). Like (c .nodes) x (upTo norm N cells (suc k))) (sym w)
           (subst (λ (y : Work). Like (c .nodes) (dedupNode (asked norm N (d .trans) k) k (workOf l b)) y) (sym (upTo-turn norm N cells k e))
           (like-node (c .nodes) k (asked norm N (d .trans) k) (workOf l b) d (S .like))) in
-          record { held = H; stands = D .stands; like = rw add-one q }
+          record { held = H; stands = D .stands; chained = D .chained; like = rw add-one q }
 
     pub turn-skip : isD norm N k ≡ not cells → Sweeping src l c cells can (k + 1) b
     turn-skip e = record {
       held = H;
       stands = S .stands;
+      chained = S .chained;
       like = rw add-one (subst (λ (y : Work). Like (c .nodes) (workOf l b) y) (sym (upTo-skip norm N cells k e)) (S .like));
     }
 
@@ -157,23 +160,26 @@ module _ (src l : List ℕ) (c : Counts) (cells can : Bool) (v : ℕ) (b : Built
 
 -- ---- where the sweeps begin
 
-pub sweep-start : (src l m : List ℕ) (c : Counts) (can : Bool) (b : Built) → Dedupable src l c → m ≡ numbered l (c .nodes) → b .nodes ≡ 0 → b .fanin ≡ 0
+pub sweep-start : (src l e m : List ℕ) (c : Counts) (can : Bool) (b : Built) → Dedupable src l c → e ≡ emptied l 256 → m ≡ numbered e (c .nodes) → b .nodes ≡ 0 → b .fanin ≡ 0
     → Sweeping src m c true can 0 b
 unfolding fanin
-sweep-start src l m c can b D e bn bf =
+sweep-start src l e m c can b D ee em bn bf =
     let few = nodes-few src c (D .held) in
-    let z : 16384 ≤ length m = rw (e, length-numbered) (D .long) in
-    rw e (record {
+    let y : 16384 ≤ length e = rw (ee, length-emptied) (D .long) in
+    let z : 16384 ≤ length (numbered e (c .nodes)) = rw length-numbered y in
+    rw em (record {
       held = D .held;
       stands = record {
-        long = rw e at z;
-        packed = rw (bn, bf) (packed-none (numbered l (c .nodes)) (omega (arith, rw e at z)));
+        long = z;
+        packed = rw (bn, bf) (packed-none (numbered e (c .nodes)) (omega arith));
         firsts = λ v h. absurd (omega arith);
-        total = rw (bn, bf) (sym (ap fanin (nodesOf-none (numbered l (c .nodes)))));
+        total = rw (bn, bf) (sym (ap fanin (nodesOf-none (numbered e (c .nodes)))));
       };
+      chained = rw bn (chained-none (numbered e (c .nodes))
+          (λ h q. cell-numbered-past e (c .nodes) headBase h few (omega arith) ∙ ap (λ (x : List ℕ). cell x headBase h) ee ∙ heads-emptied l (D .long) 256 h (omega arith) q));
       like = record {
-        trans = λ v h. trOf-numbered l (D .long) (c .nodes) v few h ∙ sym (upTo-trans (normOf can) (networkOf src c) v);
-        news = rw bn (nodesOf-none (numbered l (c .nodes)) ∙ sym (upTo-start (normOf can) (networkOf src c)));
+        trans = λ v h. trOf-numbered e y (c .nodes) v few h ∙ sym (upTo-trans (normOf can) (networkOf src c) v);
+        news = rw bn (nodesOf-none (numbered e (c .nodes)) ∙ sym (upTo-start (normOf can) (networkOf src c)));
       };
     })
 
@@ -181,6 +187,7 @@ pub sweep-over : (src l : List ℕ) (c : Counts) (can : Bool) (b : Built) → Sw
 sweep-over src l c can b S = record {
   held = S .held;
   stands = S .stands;
+  chained = S .chained;
   like = subst (λ (y : Work). Like (c .nodes) (workOf l b) y)
       (ap (upTo (normOf can) (networkOf src c) true) (sym (size-network src c)) ∙ sym (upTo-over (normOf can) (networkOf src c))) (S .like);
 }

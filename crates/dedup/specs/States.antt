@@ -16,6 +16,7 @@ use Rattle.gates.specs.declared.Normalization.{Normalization}
 use Rattle.gates.specs.Normals.{normalOf}
 use Rattle.shape.proofs.DedupSweep.{upTo}
 use Rattle.dedup.specs.Lists.{listBase, trOf, normOf, listed, withTable, countOf}
+use Rattle.dedup.specs.Chains.{bucketOf, Chained, joined}
 use Rattle.dedup.specs.declared.Built.{Built}
 use Rattle.dedup.specs.declared.place.Spot.{Spot}
 
@@ -34,16 +35,18 @@ workOf l b = record { trans = trOf l; news = nodesOf l (b .nodes) }
 
 pub record Room (l : List ℕ) (b : Built) (n : ℕ) : Type 0 where
   pub stands : Stands l b
+  pub chained : Chained l (b .nodes)
   pub more : b .nodes < 512
   pub fits : b .fanin + n ≤ 2048
 
-pub record Appended (l m : List ℕ) (b : Built) (k n lo hi : ℕ) (r : Built) : Type 0 where
-  pub words : m ≡ putNode l (b .nodes) k (b .fanin) (cell l listBase) n lo hi
+pub record Appended (l m : List ℕ) (b : Built) (h k n lo hi : ℕ) (r : Built) : Type 0 where
+  pub words : m ≡ joined (putNode l (b .nodes) k (b .fanin) (cell l listBase) n lo hi) (b .nodes) h
   pub nodes-is : r .nodes ≡ b .nodes + 1
   pub fanin-is : r .fanin ≡ b .fanin + n
 
 pub record Placed (l m : List ℕ) (b : Built) (g : Gate) (r : Spot) : Type 0 where
   pub stands : Stands m (r .built)
+  pub chained : Chained m (r .built .nodes)
   pub gates : nodesOf m (r .built .nodes) ≡ place g (nodesOf l (b .nodes)) .all
   pub node-is : r .node ≡ place g (nodesOf l (b .nodes)) .pos
   pub small : r .node < 512
@@ -65,6 +68,7 @@ pub record Asks (src l : List ℕ) (v : ℕ) (b : Built) : Type 0 where
 -- m is l after a lookup of the normalization nm for old node v
 pub record Did (l m : List ℕ) (v : ℕ) (b : Built) (nm : Norm) (r : Built) : Type 0 where
   pub stands : Stands m r
+  pub chained : Chained m (r .nodes)
   pub work : workOf m r ≡ dedupNode nm v (workOf l b)
 
 -- the gate that is looked up for a node
@@ -82,6 +86,7 @@ pub record Like (n : ℕ) (d e : Work) : Type 0 where
 pub record Sweeping (src l : List ℕ) (c : Counts) (cells canonical : Bool) (k : ℕ) (b : Built) : Type 0 where
   pub held : Held src c
   pub stands : Stands l b
+  pub chained : Chained l (b .nodes)
   pub like : Like (c .nodes) (workOf l b) (upTo (normOf canonical) (networkOf src c) cells k)
 
 -- ---- the last turn

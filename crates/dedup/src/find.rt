@@ -1,10 +1,14 @@
 // The first new node whose gate is the one in the list.
 ghost use mathlib.Core.Path.{_≡_};
+ghost use mathlib.Core.Bool.{cond};
 ghost use Prim.Native.Nat.{ℕ, _+_, _<_, _≤_};
 ghost use lib.ListN.{length};
 ghost use Rattle.model.specs.Network.{sameGate, findGate};
 ghost use Rattle.tables.specs.Layout.{gateAt, nodesOf};
 ghost use Rattle.dedup.specs.Lists.{sameIns, listed, asOption, Searched};
+ghost use Rattle.dedup.specs.Chains.{Seeks};
+use crate::chain::HEAD;
+use crate::chain::LINK;
 use crate::list::LIST;
 use tables::layout::count_at;
 use tables::layout::first_at;
@@ -12,6 +16,7 @@ use tables::layout::high_at;
 use tables::layout::input_at;
 use tables::layout::kind_at;
 use tables::layout::low_at;
+use tables::scratch::number;
 use tables::scratch::word;
 
 pub enum Found {
@@ -51,16 +56,35 @@ fn same_gate(to: &[u32], w: usize, kind: u32, n: usize, low: u32, high: u32) -> 
     (low == low_at(to, w)) & (high == high_at(to, w))
 }
 
-pub fn find_gate(to: &[u32], nodes: usize, kind: u32, n: usize, low: u32, high: u32) -> Found
-    requires { ⌜ Searched (now to) nodes ⌝ }
+// The node at hand where it is the gate looked for, else the one found so far.
+fn kept(same: bool, p: usize, found: usize) -> usize
+    ensures { λ r. ⌜ r ≡ cond same p found ⌝ }
+{
+    if same { p } else { found }
+}
+
+// Down the chain of bucket h: the last one met that is the gate is the first.
+pub fn find_gate(
+    to: &[u32],
+    nodes: usize,
+    h: usize,
+    kind: u32,
+    n: usize,
+    low: u32,
+    high: u32,
+) -> Found
+    requires { ⌜ Seeks (now to) nodes h (listed (now to) kind n low high) ⌝ }
     ensures { λ r. ⌜ asOption r ≡ findGate (listed (now (to .entry)) kind n low high) (nodesOf (now (to .entry)) nodes) ⌝ }
 {
-    let mut w: usize = 0;
-    while w < nodes {
-        if same_gate(to, w, kind, n, low, high) {
-            return Found::At(w);
-        }
-        w += 1;
+    let mut found: usize = 0;
+    let mut p = number(to, HEAD, h);
+    while 0 < p {
+        let same = same_gate(to, p - 1, kind, n, low, high);
+        found = kept(same, p, found);
+        p = number(to, LINK, p - 1);
     }
-    Found::Nothing
+    if found == 0 {
+        return Found::Nothing;
+    }
+    Found::At(found - 1)
 }

@@ -1,11 +1,13 @@
 // network.rs, dedup: equal gates merged, with each gate normalized first or looked up as it is.
 ghost use Rattle.dedup.specs.States.{Dedupable, Deduped};
+use crate::chain::empty_chains;
 use crate::ends::remap_cells;
 use crate::ends::remap_outputs;
 use crate::sweep::number_nodes;
 use crate::sweep::sweep;
 use tables::counts::Counts;
 
+pub mod chain;
 pub mod ends;
 pub mod find;
 pub mod list;
@@ -24,6 +26,7 @@ pub fn dedup(from: &[u32], to: &mut [u32], c: Counts, canonical: bool) -> Counts
     requires { ⌜ Dedupable (now from) (now to) c ⌝ }
     ensures { λ r. ⌜ Deduped (now (from .entry)) (now (to .exit)) c canonical r ⌝ }
 {
+    empty_chains(to);
     number_nodes(to, c.nodes);
     let none = Built { nodes: 0, fanin: 0 };
     let cells = sweep(from, to, c, none, true, canonical);

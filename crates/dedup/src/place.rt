@@ -1,12 +1,14 @@
 // The gate in the list among the new nodes: where it stands, or put behind them.
 ghost use mathlib.Core.Path.{_≡_};
-ghost use Prim.Native.Nat.{ℕ, _+_, _≤_};
+ghost use Prim.Native.Nat.{ℕ, _+_, _≤_, _<_};
 ghost use lib.ListN.{length};
 ghost use Rattle.tables.specs.Layout.{cell};
 ghost use Rattle.tables.specs.Building.{putInputs};
 ghost use Rattle.dedup.specs.Lists.{listBase, listed};
 ghost use Rattle.dedup.specs.States.{Room, Appended, Placed};
 use crate::Built;
+use crate::chain::bucket;
+use crate::chain::join;
 use crate::find::Found;
 use crate::find::find_gate;
 use crate::list::LIST;
@@ -34,14 +36,15 @@ fn append_inputs(to: &mut [u32], at: usize, n: usize)
     }
 }
 
-// The gate in the list as a new node.
-fn append(to: &mut [u32], b: Built, kind: u32, n: usize, low: u32, high: u32) -> Built
-    requires { ⌜ Room (now to) b n ⌝ }
-    ensures { λ r. ⌜ Appended (now (to .entry)) (now (to .exit)) b kind n low high r ⌝ }
+// The gate in the list as a new node, of bucket h.
+fn append(to: &mut [u32], b: Built, h: usize, kind: u32, n: usize, low: u32, high: u32) -> Built
+    requires { ⌜ Room (now to) b n × (h < 256) ⌝ }
+    ensures { λ r. ⌜ Appended (now (to .entry)) (now (to .exit)) b h kind n low high r ⌝ }
 {
     append_inputs(to, b.fanin, n);
     put_gate(to, b.nodes, kind, b.fanin as u32, n as u32);
     put_table(to, b.nodes, low, high);
+    join(to, b.nodes, h);
     Built {
         nodes: b.nodes + 1,
         fanin: b.fanin + n,
@@ -52,11 +55,12 @@ pub fn place(to: &mut [u32], b: Built, kind: u32, n: usize, low: u32, high: u32)
     requires { ⌜ Room (now to) b n ⌝ }
     ensures { λ r. ⌜ Placed (now (to .entry)) (now (to .exit)) b (listed (now (to .entry)) kind n low high) r ⌝ }
 {
-    let f = find_gate(to, b.nodes, kind, n, low, high);
+    let h = bucket(to, kind, n, low, high);
+    let f = find_gate(to, b.nodes, h, kind, n, low, high);
     match f {
         Found::At(w) => Spot { built: b, node: w },
         Found::Nothing => {
-            let more = append(to, b, kind, n, low, high);
+            let more = append(to, b, h, kind, n, low, high);
             Spot {
                 built: more,
                 node: b.nodes,
