@@ -18,8 +18,35 @@ use Rattle.tables.proofs.Places.{length-store, cell-store, cell-store-other}
 use Rattle.tables.proofs.Places.{length-putInput, inputAt-putInput, inputAt-putInput-other, kindAt-putInput, firstAt-putInput, countAt-putInput, lowAt-putInput, highAt-putInput, cell-putInput}
 use Rattle.tables.specs.Building.{putNode, putOutputs}
 use Rattle.tables.proofs.Building.{length-putNode, cell-putNode, length-putOutputs, cell-putOutputs}
-use Rattle.dedup.specs.Lists.{listBase, trOf, lookedUp, gathered}
+use Rattle.dedup.specs.Lists.{listBase, trOf, lookedUp, filled, gathered}
 use Rattle.dedup.specs.States.{numbered, turned}
+
+-- ---- a table filled
+
+module _ (l : List ℕ) (b : ℕ) (f : ℕ → ℕ) where
+  pub length-filled : (n : ℕ) → length (filled l b f n) ≡ length l
+  unfolding filled
+  length-filled zero = refl
+  length-filled (suc n) = length-store _ _ _ _ ∙ length-filled n
+
+  -- one more
+  pub filled-next : (n s : ℕ) → s ≡ f n → store (filled l b f n) b n s ≡ filled l b f (suc n)
+  unfolding filled
+  filled-next n s e = ap (store (filled l b f n) b n) e
+
+  pub cell-filled : (n j : ℕ) → b + n ≤ length l → j < n → cell (filled l b f n) b j ≡ f j
+  unfolding filled
+  cell-filled zero j r h = absurd (omega arith)
+  cell-filled (suc n) j r h = elim (ℕ-discrete j n) [
+    | yes e ↦ rw e (cell-store (filled l b f n) b n (f n) (rw length-filled (omega arith)))
+    | no e ↦ cell-store-other (filled l b f n) b n (f n) b j (omega arith) ∙ cell-filled n j (omega arith) (omega arith)
+  ]
+
+  -- other words stay
+  pub cell-filled-other : (n c j : ℕ) → ((i : ℕ) → i < n → c + j ≢ b + i) → cell (filled l b f n) c j ≡ cell l c j
+  unfolding filled
+  cell-filled-other zero c j h = refl
+  cell-filled-other (suc n) c j h = cell-store-other (filled l b f n) b n (f n) c j (h n (omega arith)) ∙ cell-filled-other n c j (λ i q. h i (omega arith))
 
 -- ---- the translation, word by word
 
@@ -68,15 +95,13 @@ trOf-putNode l z v k at f n lo hi h r =
 
 pub length-gathered : (src l : List ℕ) (c : Bool) (f n : ℕ) → length (gathered src l c f n) ≡ length l
 unfolding gathered
-length-gathered src l c f zero = refl
-length-gathered src l c f (suc n) = length-store _ _ _ _ ∙ length-gathered src l c f n
+length-gathered src l c f n = length-filled l listBase _ n
 
 module _ (src l : List ℕ) (c : Bool) (f : ℕ) (z : 16384 ≤ length l) where
   -- words before the list stay
   pub cell-gathered : (n b j : ℕ) → b + j < listBase → cell (gathered src l c f n) b j ≡ cell l b j
   unfolding gathered
-  cell-gathered zero b j h = refl
-  cell-gathered (suc n) b j h = cell-store-other (gathered src l c f n) listBase n _ b j (omega arith) ∙ cell-gathered n b j h
+  cell-gathered n b j h = cell-filled-other l listBase _ n b j (λ i q. omega arith)
 
   pub trOf-gathered : (n : ℕ) → trOf (gathered src l c f n) ≡ trOf l
   trOf-gathered n = trOf-same (gathered src l c f n) l (rw length-gathered z) z (λ v h. cell-gathered n trBase v (omega arith))
@@ -84,15 +109,11 @@ module _ (src l : List ℕ) (c : Bool) (f : ℕ) (z : 16384 ≤ length l) where
   -- one more
   pub gathered-next : (n s : ℕ) → s ≡ lookedUp c (trOf (gathered src l c f n)) (inputAt src (f + n)) → store (gathered src l c f n) listBase n s ≡ gathered src l c f (suc n)
   unfolding gathered
-  gathered-next n s e = ap (store (gathered src l c f n) listBase n) (e ∙ ap (λ (τ : ℕ → ℕ). lookedUp c τ (inputAt src (f + n))) (trOf-gathered n))
+  gathered-next n s e = filled-next l listBase _ n s (e ∙ ap (λ (τ : ℕ → ℕ). lookedUp c τ (inputAt src (f + n))) (trOf-gathered n))
 
   list-gathered : (n j : ℕ) → n ≤ 2048 → j < n → cell (gathered src l c f n) listBase j ≡ lookedUp c (trOf l) (inputAt src (f + j))
   unfolding gathered
-  list-gathered zero j r h = absurd (omega arith)
-  list-gathered (suc n) j r h = elim (ℕ-discrete j n) [
-    | yes e ↦ rw e (cell-store (gathered src l c f n) listBase n _ (rw length-gathered (omega arith)))
-    | no e ↦ cell-store-other (gathered src l c f n) listBase n _ listBase j (omega arith) ∙ list-gathered n j (omega arith) (omega arith)
-  ]
+  list-gathered n j r h = cell-filled l listBase _ n j (omega arith) h
 
 -- words of a table as a list
 pub part-tab : (l : List ℕ) (b n : ℕ) → b + n ≤ length l → take n (drop b l) ≡ tab (cell l b) n
@@ -116,31 +137,8 @@ listed-gathered src l c v z h =
 
 -- ---- the first translation
 
-pub length-numbered : (l : List ℕ) (n : ℕ) → length (numbered l n) ≡ length l
-unfolding numbered
-length-numbered l zero = refl
-length-numbered l (suc n) = length-store _ _ _ _ ∙ length-numbered l n
-
-cell-numbered : (l : List ℕ) → 16384 ≤ length l → (n v : ℕ) → n ≤ 512 → v < n → cell (numbered l n) trBase v ≡ fromVar v
-unfolding numbered
-cell-numbered l z zero v h q = absurd (omega arith)
-cell-numbered l z (suc n) v h q = elim (ℕ-discrete v n) [
-  | yes e ↦ rw e (cell-store (numbered l n) trBase n (fromVar n) (rw length-numbered (omega arith)))
-  | no e ↦ cell-store-other (numbered l n) trBase n (fromVar n) trBase v (omega arith) ∙ cell-numbered l z n v (omega arith) (omega arith)
-]
-
--- words behind the table stay
-pub cell-numbered-past : (l : List ℕ) (n c j : ℕ) → n ≤ 512 → trBase + 512 ≤ c + j → cell (numbered l n) c j ≡ cell l c j
-unfolding numbered
-cell-numbered-past l zero c j h q = refl
-cell-numbered-past l (suc n) c j h q = cell-store-other (numbered l n) trBase n (fromVar n) c j (omega arith) ∙ cell-numbered-past l n c j (omega arith) q
-
 pub trOf-numbered : (l : List ℕ) → 16384 ≤ length l → (n v : ℕ) → n ≤ 512 → v < n → trOf (numbered l n) v ≡ fromVar v
-trOf-numbered l z n v h q = trOf-cell (numbered l n) (rw length-numbered z) v (omega arith) ∙ cell-numbered l z n v h q
-
-pub numbered-next : (l : List ℕ) (n s : ℕ) → s ≡ fromVar n → store (numbered l n) trBase n s ≡ numbered l (suc n)
-unfolding numbered
-numbered-next l n s e = ap (store (numbered l n) trBase n) e
+trOf-numbered l z n v h q = trOf-cell (numbered l n) (rw length-filled z) v (omega arith) ∙ cell-filled l trBase _ n v (omega arith) q
 
 -- ---- the first input words, translated in place
 

@@ -23,7 +23,7 @@ use Rattle.tables.proofs.Places.{length-store, cell-store, cell-store-other}
 use Rattle.tables.proofs.Building.{nodesOf-next, nodesOf-none}
 use Rattle.tables.proofs.Holding.{length-nodesOf}
 use Rattle.dedup.specs.Lists.{listBase, listed, asOption}
-use Rattle.dedup.specs.Chains.{stir, stirred, bucketOf, bucketsOf, lastIn, headBase, linkBase, Chained, joined, emptied, Seeks}
+use Rattle.dedup.specs.Chains.{stir, stirred, bucketOf, bucketsOf, lastIn, headBase, linkBase, Chained, joined, Seeks}
 use Rattle.dedup.specs.declared.find.Found.{Found}
 use Rattle.dedup.specs.declared.find.Found.the-variants.{At, Nothing}
 use Rattle.dedup.proofs.Searches.{find-none, find-some, find-here}
@@ -139,21 +139,6 @@ module _ (l : List ℕ) (n h : ℕ) (z : 16384 ≤ length l) (c : Chained l n) (
         links = λ v q. links-joined v q ∙ ap (λ (k : ℕ). lastIn (bucketsOf l) k v) (same v q)
             ∙ lastIn-same (bucketsOf l) (bucketsOf (joined l n h) v) (bucketsOf (joined l n h)) v (λ u p. same u (omega arith));
       })
-
--- ---- empty chains
-
-pub length-emptied : (l : List ℕ) (n : ℕ) → length (emptied l n) ≡ length l
-unfolding emptied
-length-emptied l zero = refl
-length-emptied l (suc n) = length-store _ _ _ _ ∙ length-emptied l n
-
-pub heads-emptied : (l : List ℕ) → 16384 ≤ length l → (n h : ℕ) → n ≤ 256 → h < n → cell (emptied l n) headBase h ≡ 0
-unfolding emptied
-heads-emptied l z zero h r q = absurd (omega arith)
-heads-emptied l z (suc n) h r q = elim (ℕ-discrete h n) [
-  | yes e ↦ rw e (cell-store (emptied l n) headBase n 0 (rw length-emptied (omega arith)))
-  | no e ↦ cell-store-other (emptied l n) headBase n 0 headBase h (omega arith) ∙ heads-emptied l z n h (omega arith) (omega arith)
-]
 
 -- ---- the search down a chain
 

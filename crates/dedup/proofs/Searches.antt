@@ -1,23 +1,22 @@
 -- The search for an equal gate, word by word.
-use Prim.Native.Nat.{ℕ, zero, suc, _+_, _*_, _^_, _≤_, _<_}
-use mathlib.Core.Path.{_≡_, refl, sym, ap, ap₂, _∙_}
+use Prim.Native.Nat.{ℕ, suc, _+_, _*_, _^_, _<_}
+use mathlib.Core.Path.{_≡_, refl, sym, ap, _∙_}
 use mathlib.Core.Bool.{Bool, true, false, _&&_}
 use mathlib.Core.List.{List, [], _∷_, _++_}
-use mathlib.Core.Option.{Option, none, some, Option·map}
+use mathlib.Core.Option.{Option, none, some}
 use native.Mathlib.Omega.{arith}
 use native.Mathlib.Decide.{ℕ-discrete}
 use native.Mathlib.Numerals.{add-one}
 use lib.ListN.{length, getD}
 use lib.Dec.{eqb}
-use borrow.Author.Tests.{eq-eqb, ne-eqb, eqb-true}
+use borrow.Author.Tests.{eq-eqb, ne-eqb}
 use Rattle.laws.specs.Lists.{tab}
 use Rattle.laws.proofs.Tabs.{length-tab, getD-tab}
 use Rattle.laws.proofs.Choices.{by-bool}
-use Rattle.laws.proofs.Bools.{true-false}
-use Rattle.model.specs.Gate.{Gate, noGate}
+use Rattle.model.specs.Gate.{Gate}
 use Rattle.model.specs.Network.{sameList, sameGate, findStep, findGate}
 use Rattle.shape.proofs.DedupPlace.{sameList-eq}
-use Rattle.tables.specs.Layout.{kindAt, firstAt, countAt, inputAt, lowAt, highAt, insAt, gateAt, nodesOf, cell}
+use Rattle.tables.specs.Layout.{kindAt, firstAt, countAt, inputAt, lowAt, highAt, insAt, gateAt, cell}
 use Rattle.dedup.specs.Lists.{listBase, sameIns, listed, Searched}
 
 and-false : (a : Bool) → a && false ≡ false

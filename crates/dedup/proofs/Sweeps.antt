@@ -29,8 +29,8 @@ use Rattle.dedup.specs.Lists.{trOf, normOf}
 use Rattle.dedup.specs.Chains.{headBase, emptied}
 use Rattle.dedup.specs.States.{Stands, workOf, Room, Asks, Did, askedGate, Like, Sweeping, numbered, Dedupable}
 use Rattle.dedup.specs.declared.Built.{Built}
-use Rattle.dedup.proofs.Areas.{length-numbered, cell-numbered-past, trOf-numbered}
-use Rattle.dedup.proofs.Chains.{chained-none, length-emptied, heads-emptied}
+use Rattle.dedup.proofs.Areas.{length-filled, cell-filled, cell-filled-other, trOf-numbered}
+use Rattle.dedup.proofs.Chains.{chained-none}
 use Rattle.dedup.proofs.Lookups.{norm-law}
 
 -- the code's test of the two kinds of sweep
@@ -165,8 +165,8 @@ pub sweep-start : (src l e m : List ℕ) (c : Counts) (can : Bool) (b : Built) �
 unfolding fanin
 sweep-start src l e m c can b D ee em bn bf =
     let few = nodes-few src c (D .held) in
-    let y : 16384 ≤ length e = rw (ee, length-emptied) (D .long) in
-    let z : 16384 ≤ length (numbered e (c .nodes)) = rw length-numbered y in
+    let y : 16384 ≤ length e = rw (ee, length-filled) (D .long) in
+    let z : 16384 ≤ length (numbered e (c .nodes)) = rw length-filled y in
     rw em (record {
       held = D .held;
       stands = record {
@@ -176,7 +176,7 @@ sweep-start src l e m c can b D ee em bn bf =
         total = rw (bn, bf) (sym (ap fanin (nodesOf-none (numbered e (c .nodes)))));
       };
       chained = rw bn (chained-none (numbered e (c .nodes))
-          (λ h q. cell-numbered-past e (c .nodes) headBase h few (omega arith) ∙ ap (λ (x : List ℕ). cell x headBase h) ee ∙ heads-emptied l (D .long) 256 h (omega arith) q));
+          (λ h q. cell-filled-other e trBase _ (c .nodes) headBase h (λ i p. omega arith) ∙ ap (λ (x : List ℕ). cell x headBase h) ee ∙ cell-filled l headBase _ 256 h (omega (arith, D .long)) q));
       like = record {
         trans = λ v h. trOf-numbered e y (c .nodes) v few h ∙ sym (upTo-trans (normOf can) (networkOf src c) v);
         news = rw bn (nodesOf-none (numbered e (c .nodes)) ∙ sym (upTo-start (normOf can) (networkOf src c)));

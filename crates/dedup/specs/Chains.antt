@@ -1,14 +1,15 @@
 -- Lookup by a hash: the bucket of a gate, and each bucket's nodes as a chain, the last one first.
 use Prim.Native.Nat.{ℕ, zero, suc, _+_, _*_, _/_, _%_, _<_}
 use mathlib.Core.Path.{_≡_}
-use mathlib.Core.Bool.{Bool, cond}
+use mathlib.Core.Bool.{cond}
 use mathlib.Core.List.{List}
 use lib.ListN.{length, getD}
 use lib.Dec.{eqb}
 use Rattle.model.specs.Gate.{Gate}
 use Rattle.tables.specs.Layout.{gateAt, cell, store}
-use Rattle.dedup.specs.Lists.{Searched}
+use Rattle.dedup.specs.Lists.{filled, Searched}
 
+-- Only speed hangs on the numbers: an odd factor, near 2 ^ 30 / 1.618, spreads a word over the high bits; 4294967291 is prime.
 -- one word more stirred into a number below 2 ^ 32
 unfoldable pub stir : ℕ → ℕ → ℕ
 stir a x = (a + x) * 663608941 % 4294967296
@@ -37,7 +38,7 @@ headBase = 5184
 abbrev pub linkBase : ℕ
 linkBase = 5440
 
--- a chain for each bucket: its last node, and behind each node the last one before it
+-- a chain for each bucket: the head is its last node, and a node's link the last one before it
 pub record Chained (l : List ℕ) (n : ℕ) : Type 0 where
   pub heads : (h : ℕ) → h < 256 → cell l headBase h ≡ lastIn (bucketsOf l) h n
   pub links : (v : ℕ) → v < n → cell l linkBase v ≡ lastIn (bucketsOf l) (bucketsOf l v) v
@@ -47,9 +48,8 @@ unfoldable pub joined : List ℕ → ℕ → ℕ → List ℕ
 joined l v h = store (store l linkBase v (cell l headBase h)) headBase h (v + 1)
 
 -- l with n chains empty
-unfoldable pub emptied : List ℕ → ℕ → List ℕ
-emptied l zero = l
-emptied l (suc n) = store (emptied l n) headBase n 0
+abbrev pub emptied : List ℕ → ℕ → List ℕ
+emptied l n = filled l headBase (λ h. 0) n
 
 -- asked of a search for g among n nodes
 pub record Seeks (l : List ℕ) (n h : ℕ) (g : Gate) : Type 0 where

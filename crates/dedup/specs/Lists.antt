@@ -28,10 +28,14 @@ trOf l v = getD (take 512 (drop trBase l)) v 0
 abbrev pub lookedUp : Bool → (ℕ → ℕ) → ℕ → ℕ
 lookedUp cell τ s = cond cell s (remapOrder τ s)
 
+-- l with f 0, .. f (n - 1) as words of the table at b
+unfoldable pub filled : List ℕ → ℕ → (ℕ → ℕ) → ℕ → List ℕ
+filled l b f zero = l
+filled l b f (suc n) = store (filled l b f n) b n (f n)
+
 -- l with the n inputs of src from f on in its list, as they are looked up
 unfoldable pub gathered : List ℕ → List ℕ → Bool → ℕ → ℕ → List ℕ
-gathered src l c f zero = l
-gathered src l c f (suc n) = store (gathered src l c f n) listBase n (lookedUp c (trOf l) (inputAt src (f + n)))
+gathered src l c f n = filled l listBase (λ j. lookedUp c (trOf l) (inputAt src (f + j))) n
 
 -- dedup's parameter: each gate normalized, or looked up as it is
 abbrev pub normOf : Bool → Gate → Norm

@@ -8,15 +8,15 @@ use Rattle.model.specs.Signal.{fromVar, remapOrder}
 use Rattle.model.specs.Gate.{Gate, Net, remapGate, shaped, fanin, isTopoSorted}
 use Rattle.model.specs.Normal.{Norm}
 use Rattle.model.specs.Network.{Work, place, dedupNode, dedupWith, dedupMap}
-use Rattle.tables.specs.Layout.{netSize, trBase, firstAt, countAt, inputAt, lowAt, highAt, gateAt, nodesOf, putInput, cell, store}
+use Rattle.tables.specs.Layout.{netSize, trBase, firstAt, countAt, inputAt, lowAt, highAt, gateAt, nodesOf, putInput, cell}
 use Rattle.tables.specs.Building.{Packed, putNode}
 use Rattle.tables.specs.Holding.{networkOf, Held, Holds}
 use Rattle.tables.specs.declared.counts.Counts.{Counts}
 use Rattle.gates.specs.declared.Normalization.{Normalization}
 use Rattle.gates.specs.Normals.{normalOf}
 use Rattle.shape.proofs.DedupSweep.{upTo}
-use Rattle.dedup.specs.Lists.{listBase, trOf, normOf, listed, withTable, countOf}
-use Rattle.dedup.specs.Chains.{bucketOf, Chained, joined}
+use Rattle.dedup.specs.Lists.{listBase, trOf, filled, normOf, listed, withTable, countOf}
+use Rattle.dedup.specs.Chains.{Chained, joined}
 use Rattle.dedup.specs.declared.Built.{Built}
 use Rattle.dedup.specs.declared.place.Spot.{Spot}
 
@@ -92,9 +92,8 @@ pub record Sweeping (src l : List ℕ) (c : Counts) (cells canonical : Bool) (k 
 -- ---- the last turn
 
 -- l with each node's own signal as its translation
-unfoldable pub numbered : List ℕ → ℕ → List ℕ
-numbered l zero = l
-numbered l (suc n) = store (numbered l n) trBase n (fromVar n)
+abbrev pub numbered : List ℕ → ℕ → List ℕ
+numbered l n = filled l trBase (λ v. fromVar v) n
 
 -- l with its first n input words translated
 unfoldable pub turned : List ℕ → ℕ → List ℕ

@@ -1,7 +1,6 @@
 use mathlib.Core.Path.{_≡_, refl}
 use native.Mathlib.Omega.{arith}
 use Rattle.tables.proofs.Holding.{nodes-few, outs-few}
-use Rattle.dedup.proofs.Chains.{length-emptied}
 use Rattle.dedup.proofs.Sweeps.{sweep-start, sweep-over}
 use Rattle.dedup.proofs.Finish.{finished}
 use borrow.Author.Needs.{needs}

@@ -3,6 +3,7 @@ use mathlib.Core.Path.{_≡_, refl}
 use native.Mathlib.Numerals.{add-one}
 use native.Mathlib.Omega.{arith}
 use lib.ListN.{length}
+use Rattle.dedup.specs.Lists.{filled}
 use Rattle.dedup.specs.Chains.{emptied}
 use Rattle.dedup.proofs.chain.empty_chains.Statement.{statement}
 use Rattle.dedup.proofs.chain.empty_chains.Tie as tie
@@ -14,7 +15,7 @@ abbrev μ-loop : tie.MeasureT-loop
 μ-loop to₀ h₀ to h = 256 - h
 
 loop-holds : tie.Need-loop-holds Inv-loop μ-loop
-unfolding emptied
+unfolding filled
 loop-holds c = (omega arith, refl, refl)
 
 put-word-requires : tie.Need-put-word-requires Inv-loop μ-loop
@@ -27,7 +28,7 @@ loop-less : tie.Need-loop-less Inv-loop μ-loop
 loop-less c = omega arith
 
 loop-again : tie.Need-loop-again Inv-loop μ-loop
-unfolding emptied
+unfolding filled
 loop-again c = (omega arith, omega arith, rw add-one (cc))
 
 same-length : tie.Need-same-length Inv-loop μ-loop

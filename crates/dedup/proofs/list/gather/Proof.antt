@@ -4,7 +4,7 @@ use native.Mathlib.Numerals.{add-one}
 use native.Mathlib.Omega.{arith}
 use lib.ListN.{length}
 use Rattle.tables.specs.Layout.{inputAt}
-use Rattle.dedup.specs.Lists.{trOf, lookedUp, gathered}
+use Rattle.dedup.specs.Lists.{trOf, lookedUp, filled, gathered}
 use Rattle.dedup.proofs.Areas.{gathered-next}
 use Rattle.dedup.proofs.list.gather.Statement.{statement}
 use Rattle.dedup.proofs.list.gather.Tie as tie
@@ -16,7 +16,7 @@ abbrev μ-loop : tie.MeasureT-loop
 μ-loop from to₀ first n cell j₀ to j = n - j
 
 loop-holds : tie.Need-loop-holds Inv-loop μ-loop
-unfolding gathered
+unfolding gathered filled
 loop-holds c = (omega arith, refl, refl)
 
 add-input-at : tie.Need-add-input-at Inv-loop μ-loop

@@ -3,8 +3,11 @@ use mathlib.Core.Path.{_≡_, refl}
 use native.Mathlib.Numerals.{add-one}
 use native.Mathlib.Omega.{arith}
 use lib.ListN.{length}
+use Rattle.tables.specs.Layout.{trBase}
+use Rattle.model.specs.Signal.{fromVar}
+use Rattle.dedup.specs.Lists.{filled}
 use Rattle.dedup.specs.States.{numbered}
-use Rattle.dedup.proofs.Areas.{numbered-next}
+use Rattle.dedup.proofs.Areas.{filled-next}
 use Rattle.dedup.proofs.sweep.number_nodes.Statement.{statement}
 use Rattle.dedup.proofs.sweep.number_nodes.Tie as tie
 
@@ -15,7 +18,7 @@ abbrev μ-loop : tie.MeasureT-loop
 μ-loop to₀ n v₀ to v = n - v
 
 loop-holds : tie.Need-loop-holds Inv-loop μ-loop
-unfolding numbered
+unfolding filled
 loop-holds c = (omega arith, refl, refl)
 
 cast-from-var : tie.Need-cast-from-var Inv-loop μ-loop
@@ -34,7 +37,7 @@ loop-less : tie.Need-loop-less Inv-loop μ-loop
 loop-less c = omega arith
 
 loop-again : tie.Need-loop-again Inv-loop μ-loop
-loop-again c = (omega arith, omega arith, rw add-one (cc (numbered-next (c .before .before .before .before .before .before .before .before .args .to .now) (c .before .before .before .before .before .before .loop .v) _ (c .before .before .before .from-var .ensures))))
+loop-again c = (omega arith, omega arith, rw add-one (cc (filled-next (c .before .before .before .before .before .before .before .before .args .to .now) trBase (λ v. fromVar v) (c .before .before .before .before .before .before .loop .v) _ (c .before .before .before .from-var .ensures))))
 
 same-length : tie.Need-same-length Inv-loop μ-loop
 same-length c = omega arith
