@@ -1,12 +1,17 @@
-use mathlib.Core.Path.{_≡_}
-use Rattle.dedup.specs.Chains.{joined}
+use Prim.Native.Nat.{ℕ, _+_}
+use mathlib.Core.Path.{ap, _∙_}
+use mathlib.Core.List.{List}
+use Rattle.tables.specs.Layout.{store}
+use Rattle.dedup.specs.Chains.{headBase, linkBase, joined}
 use borrow.Author.Needs.{needs}
 use Rattle.dedup.proofs.chain.join.Statement.{statement}
 use Rattle.dedup.proofs.chain.join.Tie as tie
 
 returns : tie.Need-returns
 unfolding joined
-returns c = cc
+returns c =
+    let a = c .before .before .before .before .before .before .before .before .before .before .before .args in
+    c .before .before .put-word2 .ensures ∙ ap (λ (l : List ℕ). store l headBase (a .h) (a .v + 1)) (c .before .before .before .before .before .before .put-word .ensures ∙ ap (store (a .to .now) linkBase (a .v)) (c .before .before .before .before .before .before .before .before .word .ensures))
 
 pub join-spec : {M : Type 1} → statement M
 join-spec =
