@@ -27,7 +27,7 @@ use Rattle.laws.proofs.Choices.{by-bool}
 use Rattle.pairs.proofs.Gates.{length-lists}
 use Rattle.pairs.proofs.Places.{leftAt-putNode, sigAt-putNode, startAt-putNode}
 use Rattle.tables.proofs.Building.{length-putNode, nodesOf-next, nodesOf-none, nodesOf-putNode, packed-none, packed-putNode}
-use Rattle.tables.proofs.Gates.{gate≡}
+use Rattle.shape.proofs.Written.{gate-eq}
 use Rattle.uses.proofs.Slots.{list-there, lists-next, lists-none, lists-skip}
 use Rattle.uses.proofs.Tallies.{lists-on, lists-same}
 use Rattle.uses.proofs.Walks.{source-few, source-more}
@@ -63,11 +63,11 @@ pub ruleset puts = (buf-done, two-done, puts-at, puts-next, puts-fits)
 -- the gates that these are
 pub is-buf : (s : ℕ) → _≡_ {A = Gate} (record { kind = 12; ins = tab (either s s) 1; table = 0 + 2 ^ 32 * 0 }) (gateOf Buf (s ∷ []))
 unfolding tab either
-is-buf s = gate≡ refl refl refl
+is-buf s = gate-eq refl refl refl
 
 pub is-two : (f : Family) (a b : ℕ) → _≡_ {A = Gate} (record { kind = codeOf (twoOf f); ins = tab (either a b) 2; table = 0 + 2 ^ 32 * 0 }) (pairGate f (record { fst = a; snd = b }))
 unfolding tab either
-is-two f a b = gate≡ refl refl refl
+is-two f a b = gate-eq refl refl refl
 
 -- ---- one more gate is replaced
 

@@ -22,7 +22,7 @@ use Rattle.tables.specs.Building.{Packed, putNode}
 use Rattle.tables.specs.Layout.{countAt, gateAt, insAt, kindAt, netSize, nodesOf, putGate, putTable}
 use Rattle.copying.proofs.Copied.{nodesOf-putCopy, packed-putCopy}
 use Rattle.tables.proofs.Building.{nodesOf-putNode, packed-putNode}
-use Rattle.tables.proofs.Gates.{gate≡}
+use Rattle.shape.proofs.Written.{gate-eq}
 use Rattle.tables.proofs.Holding.{length-ins}
 use Rattle.flatten.proofs.Openings.{ins-gate, kind-gate}
 use Rattle.flatten.proofs.Words.{behind-fits, behind-is, behind-le, behind-none, behind-over, putWords-inputs, tab-words}
@@ -43,7 +43,7 @@ module _ (l m : List ℕ) (v at : ℕ) (g : Gate) where
         let f : ℕ → ℕ = λ j. getD (g .ins) j 0 in
         let n = length (g .ins) in
         let p : m ≡ putNode l v (g .kind) at f n 0 0 = e ∙ ap (λ x. putTable (putGate x v (g .kind) at n) v 0 0) (putWords-inputs l at ws) in
-        let q : _≡_ {A = Gate} (record { kind = g .kind; ins = tab (λ j. getD (g .ins) j 0) (length (g .ins)); table = 0 }) g = gate≡ refl (tab-words ws) et in
+        let q : _≡_ {A = Gate} (record { kind = g .kind; ins = tab (λ j. getD (g .ins) j 0) (length (g .ins)); table = 0 }) g = gate-eq refl (tab-words ws) et in
         record {
           answer = sym (behind-fits at n r);
           packed = λ _. rw p (packed-putNode l v at P (g .kind) f n 0 0 h r);

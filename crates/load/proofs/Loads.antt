@@ -20,7 +20,7 @@ use Rattle.tables.specs.Layout.{netSize, nodesOf, outputsOf, putGate, putTable}
 use Rattle.tables.specs.Building.{putInputs, putNode, putOutputs, Packed}
 use Rattle.tables.specs.Holding.{Holds}
 use Rattle.tables.specs.declared.counts.Counts.{Counts}
-use Rattle.tables.proofs.Gates.{gate≡}
+use Rattle.shape.proofs.Written.{gate-eq}
 use Rattle.tables.proofs.Building.{nodesOf-none, packed-none, nodesOf-putNode, packed-putNode, outputsOf-putOutputs, nodesOf-putOutputs, packed-putOutputs}
 use Rattle.tables.proofs.Holding.{holds}
 use Rattle.load.specs.declared.body.Place.{Place}
@@ -104,7 +104,7 @@ loading-none b l n R = record { packed = packed-none l (R .long); nodes = nodesO
 record-gate : (ws : List ℕ) (at : ℕ) → at + sizeAt ws at ≤ length ws
     → record { kind = codeAt ws at; ins = tab (wordFrom ws (at + 1)) (countAt ws at); table = lowIn ws at + 2 ^ 32 * highIn ws at } ≡ recordGate ws at
 unfolding recordGate tableAt lowIn highIn
-record-gate ws at h = gate≡ refl (tab-words ws (at + 1) (countAt ws at) (omega (arith, count-lt-size ws at))) (go (isLut (codeAt ws at)))
+record-gate ws at h = gate-eq refl (tab-words ws (at + 1) (countAt ws at) (omega (arith, count-lt-size ws at))) (go (isLut (codeAt ws at)))
   where
     go : (t : Bool)
         → cond t (getD ws (at + 1 + countAt ws at) 0) 0 + 2 ^ 32 * cond t (getD ws (at + 2 + countAt ws at) 0) 0

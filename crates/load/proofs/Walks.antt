@@ -8,7 +8,8 @@ use lib.ListN.{length}
 use Rattle.model.specs.Gate.{Gate, fanin}
 use Rattle.model.specs.Image.{countAt, sizeAt, recordGate, gatesFrom, endFrom}
 use Rattle.shape.proofs.Walks.{end-last, end-mono, ins-length}
-use Rattle.tables.proofs.Holding.{fanin-append, fanin-one}
+use Rattle.shape.proofs.FactoringGrown.{fanin-append}
+use Rattle.tables.proofs.Holding.{fanin-one}
 
 -- j records and then d
 pub gates-add : (j d : ℕ) (ws : List ℕ) (at : ℕ) → gatesFrom (j + d) ws at ≡ gatesFrom j ws at ++ gatesFrom d ws (endFrom j ws at)

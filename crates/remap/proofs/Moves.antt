@@ -17,7 +17,7 @@ use Rattle.shape.proofs.Wires.{var-low}
 use Rattle.tables.specs.Layout.{span, kindAt, firstAt, countAt, inputAt, insAt, lowAt, highAt, outputAt, gateAt, putInput, putOutput, cell, trBase, orderBase}
 use Rattle.tables.specs.Building.{putInputs, putOutputs}
 use Rattle.tables.specs.declared.counts.Counts.{Counts}
-use Rattle.tables.proofs.Gates.{gate≡}
+use Rattle.shape.proofs.Written.{gate-eq}
 use Rattle.tables.proofs.Building.{length-putInputs, putInputs-next, cell-putInputs, length-putNode, cell-putNode, nodesOf-none, nodesOf-putNode, packed-none, packed-putNode, length-putOutputs, putOutputs-next, cell-putOutputs}
 use Rattle.remap.specs.Remapping.{inputsBy, outputsBy, Copying, Placing, Put, inputsOf, Mapping, gateBy, Moving, Mapped, OutMapping}
 
@@ -103,7 +103,7 @@ move-none from l c m M = record {
 gate-moved : (from : List ℕ) (t : ℕ → ℕ) (v : ℕ)
     → record { kind = kindAt from v; ins = tab (inputsBy from t (firstAt from v)) (countAt from v); table = lowAt from v + 2 ^ 32 * highAt from v } ≡ remapGate t (gateAt from v)
 unfolding inputsBy gateAt insAt
-gate-moved from t v = gate≡ refl (sym (map-tab (remapOrder t) (λ j. inputAt from (firstAt from v + j)) (countAt from v))) refl
+gate-moved from t v = gate-eq refl (sym (map-tab (remapOrder t) (λ j. inputAt from (firstAt from v + j)) (countAt from v))) refl
 
 module _ (from l : List ℕ) (c : Counts) (m : ℕ) (M : Mapping from l c m) (e : List ℕ) (k at : ℕ) (K : Moving from l e k at) (h : k < m) where
   pub move-order : 5184 + k < length e

@@ -18,7 +18,7 @@ use Rattle.tables.specs.Layout.{firstAt, countAt, inputAt, insAt, outputAt, gat
 use Rattle.tables.specs.Building.{putOutputs}
 use Rattle.tables.specs.Holding.{networkOf}
 use Rattle.tables.specs.declared.counts.Counts.{Counts}
-use Rattle.tables.proofs.Gates.{gate≡}
+use Rattle.shape.proofs.Written.{gate-eq}
 use Rattle.tables.proofs.Building.{length-putOutputs, cell-putOutputs, nodesOf-putOutputs, packed-putOutputs, outputsOf-putOutputs}
 use Rattle.tables.proofs.Holding.{size-network, gate-network, holds}
 use Rattle.remap.specs.Tables.{orderFrom}
@@ -111,7 +111,7 @@ module _ (from l : List ℕ) (c : Counts) (m : ℕ) (O : Orders from l c m) wher
         gates k h =
             let low = order-at k h in
             rw (gate-network from c (cell l orderBase k) low, D .numbers .order k)
-            (gate≡ refl (map-same (cell d trBase) (translation (size (networkOf from c)) (orderFrom l 0 m)) (c .nodes) (gateAt from (cell l orderBase k) .ins) (ins-below (cell l orderBase k) low) agree) refl)
+            (gate-eq refl (map-same (cell d trBase) (translation (size (networkOf from c)) (orderFrom l 0 m)) (c .nodes) (gateAt from (cell l orderBase k) .ins) (ins-below (cell l orderBase k) low) agree) refl)
 
         nodes-is : nodesOf g m ≡ remap (orderFrom l 0 m) (networkOf from c) .nodes
         unfolding remap

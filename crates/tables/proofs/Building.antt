@@ -7,6 +7,7 @@ use native.Mathlib.Omega.{arith}
 use native.Mathlib.Decide.{ℕ-discrete}
 use lib.ListN.{length}
 use Rattle.model.specs.Gate.{Gate}
+use Rattle.shape.proofs.Written.{gate-eq}
 use Rattle.laws.specs.Lists.{tab}
 use Rattle.laws.proofs.Tabs.{tab-ext}
 use Rattle.tables.specs.Layout.{netSize, kindAt, firstAt, countAt, inputAt, lowAt, highAt, outputAt, insAt, gateAt, nodesOf, outputsOf, putGate, putInput, putTable, putOutput, cell}
@@ -15,7 +16,7 @@ use Rattle.tables.proofs.Places.{length-putGate, kindAt-putGate, firstA
 use Rattle.tables.proofs.Places.{length-putInput, inputAt-putInput, inputAt-putInput-other, kindAt-putInput, firstAt-putInput, countAt-putInput, lowAt-putInput, highAt-putInput, outputAt-putInput, cell-putInput}
 use Rattle.tables.proofs.Places.{length-putTable, lowAt-putTable, highAt-putTable, lowAt-putTable-other, highAt-putTable-other, kindAt-putTable, firstAt-putTable, countAt-putTable, inputAt-putTable, outputAt-putTable, cell-putTable}
 use Rattle.tables.proofs.Places.{length-putOutput, outputAt-putOutput, outputAt-putOutput-other, kindAt-putOutput, firstAt-putOutput, countAt-putOutput, lowAt-putOutput, highAt-putOutput, inputAt-putOutput, cell-putOutput}
-use Rattle.tables.proofs.Gates.{gate≡, gateAt-same}
+use Rattle.tables.proofs.Gates.{gateAt-same}
 
 -- ---- inputs
 
@@ -98,7 +99,7 @@ module _ (l : List ℕ) (v k at : ℕ) (f : ℕ → ℕ) (n lo hi : ℕ) where
           let ek = kindAt-putTable g v lo hi v h ∙ kindAt-putGate p v k at n h y in
           let ef = firstAt-putTable g v lo hi v h ∙ firstAt-putGate p v k at n h y in
           let ec = countAt-putTable g v lo hi v h ∙ countAt-putGate p v k at n h y in
-          gate≡ ek
+          gate-eq ek
           (ap (λ (m : ℕ). tab (λ j. inputAt (putTable g v lo hi) (firstAt (putTable g v lo hi) v + j)) m) ec
           ∙ ap (λ (m : ℕ). tab (λ j. inputAt (putTable g v lo hi) (m + j)) n) ef
           ∙ tab-ext _ f n

@@ -8,14 +8,12 @@ use native.Mathlib.Omega.{arith}
 use lib.ListN.{length, getD, take, length-append, List·getD-append}
 use lib.Seq.{getD-at, take-suc}
 use Rattle.model.specs.Gate.{Gate, mapGate}
+use Rattle.shape.proofs.Written.{gate-eq}
 use Rattle.laws.specs.Lists.{tab}
 use Rattle.laws.proofs.Tabs.{tab-ext, map-tab}
 use Rattle.tables.specs.Layout.{netSize, kindAt, firstAt, countAt, inputAt, lowAt, highAt, insAt, gateAt, putGate, putInput, putTable, putOutput}
 use Rattle.tables.proofs.Places.{kindAt-putGate, firstAt-putGate, countAt-putGate, kindAt-putGate-other, firstAt-putGate-other, countAt-putGate-other}
 use Rattle.tables.proofs.Places.{inputAt-putGate, lowAt-putGate, highAt-putGate}
-
-pub gate≡ : {g h : Gate} → g .kind ≡ h .kind → g .ins ≡ h .ins → g .table ≡ h .table → g ≡ h
-gate≡ p q r = λ i. record { kind = p i; ins = q i; table = r i }
 
 -- node w of l is node v of m with its inputs put through t, where each word is
 pub gateAt-by : (t : ℕ → ℕ) (l m : List ℕ) (w v : ℕ) → kindAt l w ≡ kindAt m v → countAt l w ≡ countAt m v
@@ -23,7 +21,7 @@ pub gateAt-by : (t : ℕ → ℕ) (l m : List ℕ) (w v : ℕ) → kindAt l w �
     → lowAt l w ≡ lowAt m v → highAt l w ≡ highAt m v → gateAt l w ≡ mapGate t (gateAt m v)
 unfolding gateAt insAt
 gateAt-by t l m w v k c i lo hi =
-    gate≡ k
+    gate-eq k
     (ap (λ n. tab (λ j. inputAt l (firstAt l w + j)) n) c ∙ tab-ext _ _ (countAt m v) i ∙ sym (map-tab t _ (countAt m v)))
     (rw (lo, hi))
 
@@ -33,6 +31,6 @@ pub gateAt-same : (l m : List ℕ) (w v : ℕ) → kindAt l w ≡ kindAt m v →
     → lowAt l w ≡ lowAt m v → highAt l w ≡ highAt m v → gateAt l w ≡ gateAt m v
 unfolding gateAt insAt
 gateAt-same l m w v k c i lo hi =
-    gate≡ k
+    gate-eq k
     (ap (λ n. tab (λ j. inputAt l (firstAt l w + j)) n) c ∙ tab-ext _ _ (countAt m v) i)
     (rw (lo, hi))

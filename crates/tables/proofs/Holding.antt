@@ -15,15 +15,14 @@ use Rattle.kinds.specs.Kinds.{kindOf}
 use Rattle.model.specs.Gate.{Gate, Net, Valid, noGate, size, fitsKind, fitsCode, fitsTable, shaped, fanin, named, allNamed, gatesNamed, wired}
 use Rattle.model.specs.Gate as model
 use Rattle.model.specs.Network.{sumTo}
+use Rattle.shape.proofs.FactoringGrown.{fanin-append}
+use Rattle.shape.proofs.Written.{net-eq}
 use Rattle.shape.proofs.Named.{Here, shaped-at, wired-ins, wired-outs}
 use Rattle.tables.specs.Layout.{netSize, kindAt, firstAt, countAt, inputAt, lowAt, highAt, outputAt, insAt, gateAt, nodesOf, outputsOf, netOf}
 use Rattle.tables.specs.Building.{Packed}
 use Rattle.tables.specs.Holding.{networkOf, Held, Holds}
 use Rattle.tables.specs.declared.counts.Counts.{Counts}
 use Rattle.tables.proofs.Building.{nodesOf-next, nodesOf-none}
-
-pub net≡ : {a b : Net} → a .inputs ≡ b .inputs → a .nodes ≡ b .nodes → a .outs ≡ b .outs → a ≡ b
-net≡ p q r = λ i. record { inputs = p i; nodes = q i; outs = r i }
 
 -- ---- the network of an area, part by part
 
@@ -56,11 +55,6 @@ module _ (l : List ℕ) (v : ℕ) where
 pub length-ins : (l : List ℕ) (v : ℕ) → length (gateAt l v .ins) ≡ countAt l v
 unfolding gateAt
 length-ins l v = length-insAt l v
-
-pub fanin-append : (gs hs : List Gate) → fanin (gs ++ hs) ≡ fanin gs + fanin hs
-unfolding fanin
-fanin-append [] hs = omega arith
-fanin-append (g ∷ gs) hs = rw (fanin-append gs hs) (omega arith)
 
 pub fanin-one : (g : Gate) → fanin (g ∷ []) ≡ length (g .ins)
 unfolding fanin
@@ -148,7 +142,7 @@ module _ (l : List ℕ) (c : Counts) (N : Net) (at : ℕ) (P : Packed l (c .node
   pub holds : Valid N → c .inputs ≡ N .inputs → nodesOf l (c .nodes) ≡ N .nodes → outputsOf l (c .outs) ≡ N .outs → Holds l c N
   unfolding networkOf netOf
   holds ok i ns os =
-      let e : networkOf l c ≡ N = net≡ i ns os in
+      let e : networkOf l c ≡ N = net-eq i ns os in
       let r = P .room in
       record {
         held = record {

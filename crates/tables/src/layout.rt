@@ -1,3 +1,4 @@
+// A network in an area: where each word of it stands, read and put; and the areas cleared.
 ghost use mathlib.Core.Path.{_≡_};
 ghost use Prim.Native.Nat.{ℕ, _+_, _-_, _*_, _<_, _≤_};
 ghost use lib.ListN.{length};
