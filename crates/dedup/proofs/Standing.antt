@@ -22,7 +22,8 @@ use Rattle.tables.specs.Building.{Packed, putInputs, putNode}
 use Rattle.tables.proofs.Places.{Agree, kindAt-agree, firstAt-agree, countAt-agree, inputAt-agree, lowAt-agree, highAt-agree, length-store, cell-store-other, firstAt-putTable, firstAt-putGate}
 use Rattle.tables.proofs.Gates.{gateAt-same}
 use Rattle.tables.proofs.Building.{length-putInputs, length-putNode, cell-putNode, firstAt-putNode, gateAt-putNode, gateAt-putNode-other, nodesOf-same, nodesOf-putNode, packed-putNode}
-use Rattle.tables.proofs.Holding.{length-nodesOf, fanin-append, fanin-one}
+use Rattle.shape.proofs.FactoringGrown.{fanin-append}
+use Rattle.tables.proofs.Holding.{length-nodesOf, fanin-one}
 use Rattle.gates.specs.declared.Normalization.{Normalization}
 use Rattle.gates.specs.declared.Normalization.the-variants.{Copy, Node}
 use Rattle.gates.specs.Normals.{normalOf}

@@ -30,7 +30,8 @@ use Rattle.laws.proofs.Choices.{by-bool}
 use Rattle.laws.proofs.Lists.{all-map}
 use Rattle.shape.proofs.Flatten.{flatAt, flats-next, inside-comb, merged-inputs, merged-nodes, merged-outs, merged-valid}
 use Rattle.tables.proofs.Building.{nodesOf-none, nodesOf-putOutputs, outputsOf-putOutputs, packed-none, packed-putOutputs}
-use Rattle.tables.proofs.Holding.{fanin-append, fanin-one, gate-network, getD-nodesOf, holds as held-network, nodes-few, outs-few, size-network}
+use Rattle.shape.proofs.FactoringGrown.{fanin-append}
+use Rattle.tables.proofs.Holding.{fanin-one, gate-network, getD-nodesOf, holds as held-network, nodes-few, outs-few, size-network}
 use Rattle.flatten.proofs.Dependencies.{merge-same}
 use Rattle.flatten.proofs.Openings.{ins-gate}
 use Rattle.flatten.proofs.Words.{behind-is, behind-le, behind-over}

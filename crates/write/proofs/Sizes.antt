@@ -19,7 +19,7 @@ use Rattle.tables.specs.Holding.{networkOf, Held}
 use Rattle.tables.specs.declared.counts.Counts.{Counts}
 use Rattle.tables.proofs.Building.{nodesOf-next, nodesOf-none}
 use Rattle.tables.proofs.Holding.{length-insAt, length-nodesOf, length-outputsOf, fanin-nodesOf, nodes-few, outs-few, total-few}
-use Rattle.tables.proofs.Holding.{fanin-append}
+use Rattle.shape.proofs.FactoringGrown.{fanin-append}
 
 -- ---- one record
 
