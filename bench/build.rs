@@ -14,7 +14,7 @@ fn main() {
     println!("cargo::rerun-if-env-changed=LANTERNLEAN_LIB");
     let manifest = PathBuf::from(env::var("CARGO_MANIFEST_DIR").unwrap());
     let out = PathBuf::from(env::var("OUT_DIR").unwrap());
-    judge::make_trees(&judge::rust_folder(manifest.parent().unwrap()), &out);
+    judge::make_trees(&judge::rust_folder(), &out);
 
     let library = env::var("LANTERNLEAN_LIB").expect("bench/run sets LANTERNLEAN_LIB");
     println!("cargo::rerun-if-changed={library}");

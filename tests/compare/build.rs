@@ -86,19 +86,15 @@ fn main() {
     let manifest = PathBuf::from(env::var("CARGO_MANIFEST_DIR").unwrap());
     let repository = manifest.ancestors().nth(2).unwrap().to_path_buf();
     let out = PathBuf::from(env::var("OUT_DIR").unwrap());
-    make_trees(&rust_folder(&repository), &out);
+    make_trees(&rust_folder(), &out);
     find_entries(&repository, &manifest, &out);
 }
 
 /// Where the four files are. Without them there is no oracle, so there is no build.
-pub fn rust_folder(repository: &Path) -> PathBuf {
+pub fn rust_folder() -> PathBuf {
     match env::var_os("LANTERNLEAN_RUST") {
         Some(folder) => PathBuf::from(folder),
-        None => repository
-            .join("..")
-            .join("shared")
-            .join("docs")
-            .join("src"),
+        None => fail("The comparison needs the four Rust files: set LANTERNLEAN_RUST to their folder."),
     }
 }
 
@@ -111,8 +107,8 @@ fn source(folder: &Path, names: &[&str; 2]) -> String {
         }
     }
     fail(&format!(
-        "The comparison needs the four Rust files, and {} has no {}. Set LANTERNLEAN_RUST to the \
-         folder that holds them, or put shared/docs/src beside the checkout.",
+        "The comparison needs the four Rust files, and {} has no {}: set LANTERNLEAN_RUST to the \
+         folder that holds them.",
         folder.display(),
         names[0]
     ))
