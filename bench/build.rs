@@ -12,7 +12,6 @@ fn main() {
     println!("cargo::rerun-if-changed=build.rs");
     println!("cargo::rerun-if-env-changed=LANTERNLEAN_RUST");
     println!("cargo::rerun-if-env-changed=LANTERNLEAN_LIB");
-    let manifest = PathBuf::from(env::var("CARGO_MANIFEST_DIR").unwrap());
     let out = PathBuf::from(env::var("OUT_DIR").unwrap());
     judge::make_trees(&judge::rust_folder(), &out);
 

@@ -6,7 +6,7 @@ use std::path::Path;
 use crate::cases::Case;
 use crate::measure;
 use crate::ours;
-use crate::work::{rows, PASSES, REFUSED};
+use crate::work::{rows, CYCLE, PASSES};
 
 type Figures = HashMap<String, f64>;
 
@@ -41,18 +41,28 @@ fn table(order: &[(String, &'static str)], figures: &Figures, shown: impl Fn(f64
     println!("|---|---|--:|--:|--:|--:|--:|--:|--:|");
     for (case, row) in order {
         let figure = |row: &str, side: &str| figures.get(&format!("{case}|{row}|{side}")).copied();
-        let ours = figure(row, "ours");
-        let rust_alone = figure(row, "alone");
-        // reading and writing beside a pass, reading beside a cycle; for us, what is not the cycle
-        let (reader, rest) = match *row {
-            "evaluate" => ("check and load", figure(REFUSED, "ours")),
-            _ if rust_alone.is_some() => ("read", figure("read", "ours")),
-            _ => (*row, None),
-        };
-        let rust = figure(reader, "reader").map(|r| r + rust_alone.unwrap_or(0.0));
-        let ours_alone = match (ours, rest) {
-            (Some(ours), Some(rest)) if ours > rest => Some(ours - rest),
+        let less = |all: Option<f64>, rest: Option<f64>| match (all, rest) {
+            (Some(all), Some(rest)) if all > rest => Some(all - rest),
             _ => None,
+        };
+        let ours = figure(row, "ours");
+        let reader = figure(row, "reader");
+        // a cycle is what a call takes above one that is refused before it; a pass, above reading and writing
+        let (rust, rust_alone, ours_alone) = if *row == CYCLE {
+            (None, less(figure(row, "alone"), reader), less(ours, reader))
+        } else {
+            let alone = figure(row, "alone");
+            let beside = match *row {
+                "evaluate" => "check and load",
+                _ if alone.is_some() => "read",
+                _ => *row,
+            };
+            let rust = figure(beside, "reader").map(|r| r + alone.unwrap_or(0.0));
+            let ours_alone = match beside {
+                "read" if *row != "read" => less(ours, figure("read", "ours")),
+                _ => None,
+            };
+            (rust, alone, ours_alone)
         };
         let show = |x: Option<f64>| x.map_or("-".to_string(), &shown);
         let ratio = |ours: Option<f64>, rust: Option<f64>| match (ours, rust) {

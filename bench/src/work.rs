@@ -59,14 +59,14 @@ impl Work for Pass {
     }
 }
 
-/// The name of the row whose calls run no cycle.
-pub const REFUSED: &str = "evaluate, refused with 14";
+/// The name of the row that sets one cycle beside the other: both right after the same image was checked and loaded.
+pub const CYCLE: &str = "cycle";
 
 /// What is measured of one network under one name.
 pub struct Row<'a> {
     pub name: &'static str,
     pub ours: Option<Box<dyn Work + 'a>>,
-    /// The judge's reader, or its reader and writer.
+    /// The judge's reader, or its reader and writer; in the row of the cycle, our call that is refused before it.
     pub reader: Option<Box<dyn Work + 'a>>,
     /// The Rust's pass on a network in memory, or a plain cycle over tables that stand ready.
     pub alone: Option<Box<dyn Work + 'a>>,
@@ -174,37 +174,62 @@ pub fn bits(count: usize) -> Vec<u8> {
 fn evaluation(case: &Case) -> Vec<Row<'_>> {
     let mut good = call(Entry::Evaluate, case);
     good.inputs = bits(case.net.inputs as usize);
+    let mut rows = vec![Row {
+        name: "evaluate",
+        ours: enter(Entry::Evaluate, case, good.clone(), 0),
+        reader: None,
+        alone: Some(Box::new(Cycle::new(case, &good.inputs, None))),
+    }];
     // refused with 14 once every byte was looked at: no cycle is run
     let mut bad = good.clone();
-    let refused = match case.net.flip_flops().last() {
-        Some(v) => {
-            bad.state[v] = 2;
-            true
+    match case.net.flip_flops().last() {
+        Some(v) => bad.state[v] = 2,
+        None => match bad.inputs.last_mut() {
+            Some(byte) => *byte = 2,
+            None => return rows,
+        },
+    }
+    let refused = || enter(Entry::Evaluate, case, bad.clone(), 14);
+    rows.push(Row {
+        name: CYCLE,
+        alone: Some(Box::new(Cycle::new(case, &good.inputs, refused()))),
+        reader: refused(),
+        ours: enter(Entry::Evaluate, case, good, 0),
+    });
+    rows
+}
+
+/// A plain cycle over tables that stand ready, after some other work or none.
+struct Cycle<'a> {
+    first: Option<Box<dyn Work + 'a>>,
+    tables: Tables,
+    inputs: Vec<u8>,
+    state: Vec<u8>,
+    values: Vec<u8>,
+    outputs: Vec<u8>,
+}
+
+impl<'a> Cycle<'a> {
+    fn new(case: &Case, inputs: &[u8], first: Option<Box<dyn Work + 'a>>) -> Cycle<'a> {
+        Cycle {
+            first,
+            tables: Tables::new(&case.net),
+            inputs: inputs.to_vec(),
+            state: vec![0; case.net.nodes.len()],
+            values: vec![0; case.net.nodes.len()],
+            outputs: vec![0; case.net.outs.len()],
         }
-        None => bad.inputs.last_mut().map(|b| *b = 2).is_some(),
-    };
-    let tables = Tables::new(&case.net);
-    let mut state = vec![0; case.net.nodes.len()];
-    let mut values = state.clone();
-    let mut outputs = vec![0; case.net.outs.len()];
-    let inputs = good.inputs.clone();
-    vec![
-        Row {
-            name: "evaluate",
-            ours: enter(Entry::Evaluate, case, good, 0),
-            reader: None,
-            alone: plain(move || {
-                tables.cycle(black_box(&inputs), &mut state, &mut outputs, &mut values);
-                black_box(&outputs);
-            }),
-        },
-        Row {
-            name: REFUSED,
-            ours: refused
-                .then(|| enter(Entry::Evaluate, case, bad, 14))
-                .flatten(),
-            reader: None,
-            alone: None,
-        },
-    ]
+    }
+}
+
+impl Work for Cycle<'_> {
+    fn run(&mut self) {
+        if let Some(first) = &mut self.first {
+            first.run();
+        }
+        let inputs = black_box(&self.inputs);
+        self.tables
+            .cycle(inputs, &mut self.state, &mut self.outputs, &mut self.values);
+        black_box(&self.outputs);
+    }
 }

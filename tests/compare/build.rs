@@ -94,7 +94,9 @@ fn main() {
 pub fn rust_folder() -> PathBuf {
     match env::var_os("LANTERNLEAN_RUST") {
         Some(folder) => PathBuf::from(folder),
-        None => fail("The comparison needs the four Rust files: set LANTERNLEAN_RUST to their folder."),
+        None => {
+            fail("The comparison needs the four Rust files: set LANTERNLEAN_RUST to their folder.")
+        }
     }
 }
 
