@@ -10,10 +10,7 @@ use kinds::Kind;
 use signal::Signal;
 
 pub mod binary;
-pub mod canonical;
-pub mod nary;
 pub mod order;
-pub mod ternary;
 
 pub enum Normalization {
     // The trivial case: the gate is a signal.

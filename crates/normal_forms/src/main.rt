@@ -2,8 +2,8 @@
 // records of an image one after another, at most 16,384 bytes; the program ends at the first that is none.
 ghost use Prim.Native.Nat.{_≤_};
 ghost use lib.ListN.{length};
+use canonical_gates::make_canonical;
 use gates::Normalization;
-use gates::canonical::make_canonical;
 use kinds::Kind;
 use libc::STDIN_FILENO;
 use libc::STDOUT_FILENO;

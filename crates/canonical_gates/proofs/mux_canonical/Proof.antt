@@ -1,0 +1,22 @@
+use Rattle.model.specs.Normal.{muxCanonical}
+use borrow.Author.Needs.{needs}
+use Rattle.canonical_gates.proofs.mux_canonical.Statement.{statement}
+use Rattle.canonical_gates.proofs.mux_canonical.Tie as tie
+
+returns : tie.Need-returns
+unfolding muxCanonical
+returns c = cc
+
+pub mux-canonical-spec : {M : Type 1} → statement M
+mux-canonical-spec =
+    tie.close
+    (tie.spec
+    (λ c κs. search needs)
+    (λ c κs. search needs)
+    (λ c κs. search needs)
+    (λ c κs. search needs)
+    (λ c κs. search needs)
+    (λ c κs. search needs)
+    (λ c κs. search needs)
+    (λ c κs. search needs)
+    returns)

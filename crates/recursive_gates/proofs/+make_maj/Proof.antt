@@ -1,0 +1,52 @@
+-- The cycle of calls {make_maj}. What falls: the inversion of the least signal.
+use Prim.Native.Nat.{ℕ, _<_}
+use borrow.Fn.Kinds.{In}
+use borrow.Fn.PlainCycle.{Measures, is, falls, and}
+use Rattle.recursive_gates.proofs.make_maj.Reads as make-maj
+use Rattle.recursive_gates.proofs.make_maj.Kinds as make-maj-kinds
+use Rattle.recursive_gates.proofs.+make_maj.Lts-make_maj as make-maj-lts
+use Rattle.gates.proofs.binary.make_and.Reads as make-and-reads
+use Rattle.gates.proofs.made_3.Reads as made-3-reads
+use Rattle.gates.proofs.order.sort_3.Reads as sort-3-reads
+use Rattle.signal.proofs.Signal.is_inverted.Reads as is-inverted-reads
+use Rattle.signal.proofs.Signal.not.Reads as not-reads
+use Rattle.signal.proofs.Signal.xor.Reads as xor-reads
+use Rattle.recursive_gates.proofs.+make_maj.{statement}
+use Rattle.recursive_gates.proofs.+make_maj.Tie.{close}
+use borrow.Author.Needs.{needs}
+use Rattle.recursive_gates.proofs.Turns.{majLeft, majTurns}
+
+abbrev μ-make-maj : Measures 1 make-maj-kinds.ps ℕ
+μ-make-maj κs a = majLeft (a .0 .a) (a .1 .0 .a) (a .1 .1 .0 .a)
+
+abbrev make-maj-at : ℕ → In 1 make-maj-kinds.ps
+make-maj-at t = and 1 make-maj-kinds.ps (is 1 make-maj-kinds.ps μ-make-maj t) make-maj.Pre
+
+abbrev make-maj-below : ℕ → In 1 make-maj-kinds.ps
+make-maj-below t =
+    and 1 make-maj-kinds.ps (falls 1 make-maj-kinds.ps _<_ μ-make-maj t) make-maj.Pre
+
+pub +make-maj-spec : {M : Type 1} → statement M
++make-maj-spec =
+    close μ-make-maj
+    (λ t. make-maj-lts.spec (sort-3-reads.Asked, sort-3-reads.Learnt, not-reads.Asked, not-reads.Learnt, xor-reads.Asked, xor-reads.Learnt, is-inverted-reads.Asked, is-inverted-reads.Learnt, make-maj-below t, make-maj.Post, make-and-reads.Asked, make-and-reads.Learnt, made-3-reads.Asked, made-3-reads.Learnt)
+    (make-maj-at t)
+    make-maj.Post
+    (λ c κs. search (needs, majTurns))
+    (λ c κs. search (needs, majTurns))
+    (λ c κs. search (needs, majTurns))
+    (λ c κs. search (needs, majTurns))
+    (λ c κs. search (needs, majTurns))
+    (λ c. search (needs, majTurns))
+    (λ c κs. search (needs, majTurns))
+    (λ c. search (needs, majTurns))
+    (λ c κs. search (needs, majTurns))
+    (λ c κs. search (needs, majTurns))
+    (λ c. search (needs, majTurns))
+    (λ c. search (needs, majTurns))
+    (λ c κs. search (needs, majTurns))
+    (λ c. search (needs, majTurns))
+    (λ c. search (needs, majTurns))
+    (λ c κs. search (needs, majTurns))
+    (λ c. search (needs, majTurns))
+    (λ c. search (needs, majTurns)))

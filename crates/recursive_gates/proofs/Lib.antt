@@ -1,0 +1,2 @@
+pub mod Muxes
+pub mod Turns
