@@ -16,16 +16,14 @@ pub fn make_and(a: Signal, b: Signal, inv: bool, list: &mut [u32]) -> Normalizat
     ensures { λ r. ⌜ normalOf r (now (list .exit)) ≡ makeAnd (a .a) (b .a) inv ⌝ }
 {
     let s = sort_2(a, b);
-    let i0 = s.low;
-    let i1 = s.high;
-    let n1 = i1.not();
-    if (i0.a == 0) | (i0.a == n1.a) {
+    let n1 = s.high.not();
+    if (s.low.a == 0) | (s.low.a == n1.a) {
         return Normalization::Copy(Signal::from_bool(inv));
     }
-    if (i0.a == 1) | (i0.a == i1.a) {
-        return Normalization::Copy(i1.xor(inv));
+    if (s.low.a == 1) | (s.low.a == s.high.a) {
+        return Normalization::Copy(s.high.xor(inv));
     }
-    made_2(Kind::And2, i0, i1, inv, list)
+    made_2(Kind::And2, s.low, s.high, inv, list)
 }
 
 // Normalize a Xor.
@@ -35,13 +33,11 @@ pub fn make_xor(a: Signal, b: Signal, inv: bool, list: &mut [u32]) -> Normalizat
 {
     let new_inv = a.is_inverted() ^ b.is_inverted() ^ inv;
     let s = sort_2(a.without_inversion(), b.without_inversion());
-    let i0 = s.low;
-    let i1 = s.high;
-    if i0.a == 0 {
-        return Normalization::Copy(i1.xor(new_inv));
+    if s.low.a == 0 {
+        return Normalization::Copy(s.high.xor(new_inv));
     }
-    if i0.a == i1.a {
+    if s.low.a == s.high.a {
         return Normalization::Copy(Signal::from_bool(new_inv));
     }
-    made_2(Kind::Xor2, i0, i1, new_inv, list)
+    made_2(Kind::Xor2, s.low, s.high, new_inv, list)
 }

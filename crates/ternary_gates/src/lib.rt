@@ -18,20 +18,17 @@ pub fn make_and3(a: Signal, b: Signal, c: Signal, inv: bool, list: &mut [u32]) -
     ensures { λ r. ⌜ normalOf r (now (list .exit)) ≡ makeAnd3 (a .a) (b .a) (c .a) inv ⌝ }
 {
     let s = sort_3(a, b, c);
-    let i0 = s.low;
-    let i1 = s.mid;
-    let i2 = s.high;
-    let n1 = i1.not();
-    if (i0.a == 0) | (i0.a == n1.a) | (i2.a == n1.a) {
+    let n1 = s.mid.not();
+    if (s.low.a == 0) | (s.low.a == n1.a) | (s.high.a == n1.a) {
         return Normalization::Copy(Signal::from_bool(inv));
     }
-    if (i0.a == 1) | (i0.a == i1.a) {
-        return make_and(i1, i2, inv, list);
+    if (s.low.a == 1) | (s.low.a == s.mid.a) {
+        return make_and(s.mid, s.high, inv, list);
     }
-    if i1.a == i2.a {
-        return make_and(i0, i1, inv, list);
+    if s.mid.a == s.high.a {
+        return make_and(s.low, s.mid, inv, list);
     }
-    made_3(Kind::And3, i0, i1, i2, inv, list)
+    made_3(Kind::And3, s.low, s.mid, s.high, inv, list)
 }
 
 // Normalize a Xor3.
@@ -45,19 +42,16 @@ pub fn make_xor3(a: Signal, b: Signal, c: Signal, inv: bool, list: &mut [u32]) -
         b.without_inversion(),
         c.without_inversion(),
     );
-    let i0 = s.low;
-    let i1 = s.mid;
-    let i2 = s.high;
-    if i0.a == 0 {
-        return make_xor(i1, i2, new_inv, list);
+    if s.low.a == 0 {
+        return make_xor(s.mid, s.high, new_inv, list);
     }
-    if i0.a == i1.a {
-        return Normalization::Copy(i2.xor(new_inv));
+    if s.low.a == s.mid.a {
+        return Normalization::Copy(s.high.xor(new_inv));
     }
-    if i1.a == i2.a {
-        return Normalization::Copy(i0.xor(new_inv));
+    if s.mid.a == s.high.a {
+        return Normalization::Copy(s.low.xor(new_inv));
     }
-    made_3(Kind::Xor3, i0, i1, i2, new_inv, list)
+    made_3(Kind::Xor3, s.low, s.mid, s.high, new_inv, list)
 }
 
 // Normalize a Dff.

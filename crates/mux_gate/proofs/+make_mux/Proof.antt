@@ -2,16 +2,16 @@
 use Prim.Native.Nat.{ℕ, _<_}
 use borrow.Fn.Kinds.{In}
 use borrow.Fn.PlainCycle.{Measures, is, falls, and}
-use Rattle.recursive_gates.proofs.make_mux.Reads as make-mux
-use Rattle.recursive_gates.proofs.make_mux.Kinds as make-mux-kinds
-use Rattle.recursive_gates.proofs.+make_mux.Lts-make_mux as make-mux-lts
-use Rattle.recursive_gates.proofs.mux_plain.Reads as mux-plain-reads
+use Rattle.mux_gate.proofs.make_mux.Reads as make-mux
+use Rattle.mux_gate.proofs.make_mux.Kinds as make-mux-kinds
+use Rattle.mux_gate.proofs.+make_mux.Lts-make_mux as make-mux-lts
+use Rattle.mux_gate.proofs.mux_plain.Reads as mux-plain-reads
 use Rattle.signal.proofs.Signal.is_inverted.Reads as is-inverted-reads
 use Rattle.signal.proofs.Signal.not.Reads as not-reads
-use Rattle.recursive_gates.proofs.+make_mux.{statement}
-use Rattle.recursive_gates.proofs.+make_mux.Tie.{close}
+use Rattle.mux_gate.proofs.+make_mux.{statement}
+use Rattle.mux_gate.proofs.+make_mux.Tie.{close}
 use borrow.Author.Needs.{needs}
-use Rattle.recursive_gates.proofs.Turns.{muxLeft, muxTurns}
+use Rattle.mux_gate.proofs.Turns.{muxLeft, muxTurns}
 
 abbrev μ-make-mux : Measures 1 make-mux-kinds.ps ℕ
 μ-make-mux κs a = muxLeft (a .0 .a) (a .1 .1 .0 .a)

@@ -2,19 +2,19 @@
 use Prim.Native.Nat.{ℕ, _<_}
 use borrow.Fn.Kinds.{In}
 use borrow.Fn.PlainCycle.{Measures, is, falls, and}
-use Rattle.recursive_gates.proofs.make_maj.Reads as make-maj
-use Rattle.recursive_gates.proofs.make_maj.Kinds as make-maj-kinds
-use Rattle.recursive_gates.proofs.+make_maj.Lts-make_maj as make-maj-lts
+use Rattle.maj_gate.proofs.make_maj.Reads as make-maj
+use Rattle.maj_gate.proofs.make_maj.Kinds as make-maj-kinds
+use Rattle.maj_gate.proofs.+make_maj.Lts-make_maj as make-maj-lts
 use Rattle.gates.proofs.binary.make_and.Reads as make-and-reads
 use Rattle.gates.proofs.made_3.Reads as made-3-reads
 use Rattle.gates.proofs.order.sort_3.Reads as sort-3-reads
 use Rattle.signal.proofs.Signal.is_inverted.Reads as is-inverted-reads
 use Rattle.signal.proofs.Signal.not.Reads as not-reads
 use Rattle.signal.proofs.Signal.xor.Reads as xor-reads
-use Rattle.recursive_gates.proofs.+make_maj.{statement}
-use Rattle.recursive_gates.proofs.+make_maj.Tie.{close}
+use Rattle.maj_gate.proofs.+make_maj.{statement}
+use Rattle.maj_gate.proofs.+make_maj.Tie.{close}
 use borrow.Author.Needs.{needs}
-use Rattle.recursive_gates.proofs.Turns.{majLeft, majTurns}
+use Rattle.maj_gate.proofs.Turns.{majLeft, majTurns}
 
 abbrev μ-make-maj : Measures 1 make-maj-kinds.ps ℕ
 μ-make-maj κs a = majLeft (a .0 .a) (a .1 .0 .a) (a .1 .1 .0 .a)
@@ -36,10 +36,10 @@ pub +make-maj-spec : {M : Type 1} → statement M
     (λ c κs. search (needs, majTurns))
     (λ c κs. search (needs, majTurns))
     (λ c κs. search (needs, majTurns))
-    (λ c κs. search (needs, majTurns))
     (λ c. search (needs, majTurns))
     (λ c κs. search (needs, majTurns))
     (λ c. search (needs, majTurns))
+    (λ c κs. search (needs, majTurns))
     (λ c κs. search (needs, majTurns))
     (λ c κs. search (needs, majTurns))
     (λ c. search (needs, majTurns))
