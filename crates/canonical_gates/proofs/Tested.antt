@@ -1,4 +1,4 @@
--- is_canonical, arm by arm.
+-- is_canonical, arm by arm, and its tests.
 use mathlib.Core.Path.{_≡_, refl, _∙_}
 use mathlib.Core.Logic.{_≢_}
 use Prim.Native.Nat.{ℕ, zero, suc}
@@ -6,12 +6,12 @@ use mathlib.Core.Bool.{Bool, true, false, not, _&&_}
 use mathlib.Core.List.{List, [], _∷_}
 use lib.ListN.{length, take, getD}
 use lib.Seq.{length-take-le}
-use lib.Dec.{ltb}
+use lib.Dec.{eqb, ltb}
 use borrow.Author.Tests.{eqb-true}
 use Rattle.kinds.specs.Kinds.{kindOf}
 use Rattle.kinds.specs.declared.Kind.{Kind}
 use Rattle.kinds.specs.declared.Kind.the-variants.{And2, Xor2, And3, Xor3, Maj, Mux, AndN, OrN, NandN, NorN, XorN, XnorN, Buf, Dff, Lut}
-use Rattle.model.specs.Signal.{isInverted, isConstant}
+use Rattle.model.specs.Signal.{isInverted, isConstant, ind}
 use Rattle.model.specs.Gate.{fitsKind}
 use Rattle.model.specs.Normal.{gateOf, sortedN, noInv, proper, muxCanonical, dffCanonical, canonicalK, isCanonical}
 use Rattle.gates.specs.Normals.{Shaped}
@@ -28,6 +28,12 @@ proper-some [] (suc n) s c e f g = cc
 proper-some (x ∷ l) (suc n) s c e f g = cc
 
 pub ruleset propers = (proper-none, proper-some)
+
+pub mux-tested : (s a b i j k : ℕ) (t u v w x : Bool) → i ≡ ind s → j ≡ ind a → k ≡ ind b → t ≡ isInverted s → u ≡ isInverted b
+    → v ≡ isConstant a → w ≡ isConstant b → x ≡ isConstant s
+    → (not (eqb i j) && not (eqb i k) && not (eqb j k) && not t && not u && not v && not w && not x) ≡ muxCanonical s a b
+unfolding muxCanonical
+mux-tested s a b i j k t u v w x ei ej ek et eu ev ew ex = rw (ei, ej, ek, et, eu, ev, ew, ex)
 
 abbrev tests : Kind → List ℕ → ℕ → Bool
 tests k l n = isCanonical (gateOf k (take n l))

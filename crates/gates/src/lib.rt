@@ -1,5 +1,5 @@
-// gates.rs: the normal form of a gate. A normalization is a copy of a signal, or a gate with an inversion whose inputs stand
-// at the front of a lent list.
+// gates.rs: what a normalization is, and the gates of two inputs. A normalization is a copy of a signal, or a gate with an
+// inversion whose inputs stand at the front of a lent list.
 ghost use mathlib.Core.Path.{_≡_};
 ghost use mathlib.Core.List.{_∷_, []};
 ghost use Prim.Native.Nat.{ℕ, _≤_};

@@ -1,11 +1,7 @@
-use Rattle.model.specs.Normal.{muxCanonical}
+use Rattle.canonical_gates.proofs.Tested.{mux-tested}
 use borrow.Author.Needs.{needs}
 use Rattle.canonical_gates.proofs.mux_canonical.Statement.{statement}
 use Rattle.canonical_gates.proofs.mux_canonical.Tie as tie
-
-returns : tie.Need-returns
-unfolding muxCanonical
-returns c = cc
 
 pub mux-canonical-spec : {M : Type 1} → statement M
 mux-canonical-spec =
@@ -19,4 +15,4 @@ mux-canonical-spec =
     (λ c κs. search needs)
     (λ c κs. search needs)
     (λ c κs. search needs)
-    returns)
+    (λ c. search (needs, mux-tested)))
