@@ -9,7 +9,6 @@ use lib.Dec.{ltb}
 use borrow.Author.Tests.{ltb-false}
 use Rattle.laws.specs.Lists.{someBelow}
 use Rattle.laws.proofs.Bools.{or-left, or-right}
-use Rattle.laws.proofs.Choices.{by-bool}
 use Rattle.laws.proofs.Lists.{some-ext}
 use Rattle.model.specs.Gate.{Gate, isDff}
 use Rattle.model.specs.Gate as model
@@ -18,7 +17,8 @@ use Rattle.tables.specs.Layout.{gateAt, netOf}
 use Rattle.tables.specs.Holding.{networkOf, Held}
 use Rattle.tables.specs.declared.counts.Counts.{Counts}
 use Rattle.tables.proofs.Holding.{size-network, gate-network, length-outputsOf}
-use Rattle.evaluate.specs.Values.{dffAt, aboveOne, cellAbove}
+use Rattle.values.specs.Values.{dffAt}
+use Rattle.evaluate.specs.Passes.{aboveOne, cellAbove, shorter}
 
 pub dff-is : (f : List ℕ) (c : Counts) (v : ℕ) → v < c .nodes → isDff (model.gateAt (networkOf f c) v) ≡ dffAt f v
 unfolding dffAt gateAt
@@ -29,7 +29,7 @@ held-few f c h = rw (size-network f c) at (h .valid .nodes-few)
 
 module _ (f : List ℕ) (c : Counts) (ins st : List ℕ) (room : ℕ) where
   abbrev short : Bool
-  short = ltb room (c .outs) || ltb (length ins) (c .inputs) || ltb (length st) (c .nodes)
+  short = shorter c (length ins) (length st) room
 
   short-is : cycleShort (networkOf f c) (length ins) (length st) room ≡ short
   unfolding cycleShort networkOf netOf
@@ -54,21 +54,14 @@ module _ (f : List ℕ) (c : Counts) (ins st : List ℕ) (room : ℕ) where
     unfolding cycleRefusal
     refusal-none e = rw (short-is, s, above-is, ← a, ← b, e)
 
-  -- no number: the buffers are long enough
-  pub not-short : cycleRefusal (networkOf f c) ins st room ≡ 0 → short ≡ false
-  unfolding cycleRefusal
-  not-short e = by-bool short (λ q. let z : 13 ≡ 0 = rw (short-is, q) at e in absurd (omega arith)) (λ q. q)
-
 -- ---- buffers that are long enough
 
-module _ (ins st : List ℕ) (room i n o : ℕ) (s : (ltb room o || ltb (length ins) i || ltb (length st) n) ≡ false) where
-  pub outs-long : o ≤ room
-  outs-long = ltb-false room o (or-left _ _ (or-left _ _ s))
+module _ (c : Counts) (i n o : ℕ) (s : shorter c i n o ≡ false) where
+  pub outs-long : c .outs ≤ o
+  outs-long = ltb-false o (c .outs) (or-left _ _ (or-left _ _ s))
 
-  pub ins-long : i ≤ length ins
-  ins-long = ltb-false (length ins) i (or-right (ltb room o) _ (or-left _ _ s))
+  pub ins-long : c .inputs ≤ i
+  ins-long = ltb-false i (c .inputs) (or-right (ltb o (c .outs)) _ (or-left _ _ s))
 
-  pub st-long : n ≤ length st
-  st-long = ltb-false (length st) n (or-right (ltb room o || ltb (length ins) i) _ s)
-
-pub ruleset ladder = (refusal-short, ins-long, held-few, refusal-above, refusal-none)
+  pub st-long : c .nodes ≤ n
+  st-long = ltb-false n (c .nodes) (or-right (ltb o (c .outs) || ltb i (c .inputs)) _ s)

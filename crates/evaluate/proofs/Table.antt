@@ -30,7 +30,8 @@ use Rattle.tables.specs.declared.counts.Counts.{Counts}
 use Rattle.tables.proofs.Holding.{size-network, gate-network, getD-insAt, length-insAt, getD-outputsOf, length-outputsOf}
 use Rattle.tables.specs.Layout.{kindAt, firstAt, countAt, inputAt, lowAt, highAt, outputAt, insAt, gateAt, outputsOf, netOf, cell, store}
 use Rattle.tables.proofs.Places.{length-store, cell-store, cell-store-other}
-use Rattle.evaluate.specs.Values.{valuesBase, valuesEnd, slot, isOdd, valueAt, inputValue, gateValueAt, dffAt, shownAt, inputsTo, forwardTo, outputByte, newState, newByte}
+use Rattle.values.specs.Values.{valuesBase, valuesEnd, slot, isOdd, valueAt, inputValue, gateValueAt, dffAt, shownAt}
+use Rattle.evaluate.specs.Passes.{inputsTo, forwardTo, outputByte, newState, newByte}
 use Rattle.evaluate.proofs.Numbers.{dff-is}
 
 odd-bit : (b : Bool) → isOdd (bit b) ≡ b

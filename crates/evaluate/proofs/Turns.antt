@@ -1,129 +1,39 @@
--- The turns of each loop, with premises as the code meets them: one ruleset answers every need.
+-- The turns of the loops of a cycle, with premises as the code meets them: one ruleset answers every need.
 use mathlib.Core.Path.{_≡_, refl, sym, ap, _∙_}
-use Prim.Native.Nat.{ℕ, suc, _+_, _-_, _*_, _/_, _≤_, _<_}
+use Prim.Native.Nat.{ℕ, _+_, _≤_, _<_}
 use native.Mathlib.Omega.{arith}
 use native.Mathlib.Nat.{le-antisymm}
 use native.Mathlib.Numerals.{add-one}
-use mathlib.Core.Bool.{Bool, true, false, not, cond, _&&_, _||_}
+use mathlib.Core.Bool.{Bool, true, false, not, _&&_}
 use mathlib.Core.List.{List, [], _∷_, _++_}
-use lib.ListN.{length, getD, set, drop, length-set, length-drop, drop-of-length-le}
+use lib.ListN.{length, getD, set, drop, length-set}
 use lib.Dec.{eqb, ltb}
-use lib.Bits.{bitAnd}
 use borrow.Author.Tests.{lt-ltb, le-ltb, eqb-true, not-true, not-false}
-use mir.Syntax.{w64}
-use mir.Val.{Fits}
 use Rattle.kinds.specs.Kinds.{kindOf, isFlipFlop}
 use Rattle.kinds.specs.declared.Kind.{Kind}
 use Rattle.kinds.specs.declared.Kind.the-variants.{And2, Xor2, And3, Xor3, Maj, Mux, AndN, OrN, NandN, NorN, XorN, XnorN, Buf, Dff, Lut}
 use Rattle.laws.specs.Bools.{bit}
 use Rattle.laws.specs.Lists.{tab, someBelow}
-use Rattle.laws.proofs.Bools.{and-right, taut3}
+use Rattle.laws.proofs.Bools.{and-right}
 use Rattle.laws.proofs.Lists.{some-none}
-use Rattle.laws.proofs.Tabs.{length-tab, drop-tab, fill-put, fill-read, fill-skip}
+use Rattle.laws.proofs.Tabs.{length-tab, fill-put, fill-read, fill-skip}
 use Rattle.model.specs.Gate.{fitsKind, fitsCode}
-use Rattle.model.specs.Evaluate.{weight, nextState}
+use Rattle.model.specs.Evaluate.{nextState}
 use Rattle.model.specs.Answers.{laidOver}
 use Rattle.tables.specs.Layout.{kindAt, firstAt, countAt, inputAt, outputAt}
-use Rattle.evaluate.specs.Values.{valuesEnd, slot, valueAt, inputValue, onesTo, outputByte, newState, newByte, dffAt, aboveOne, cellAbove, Reads, Gated, Passing}
-use Rattle.evaluate.proofs.Bits.{mask-slot, slot-below, reads-value}
-use Rattle.evaluate.proofs.Sums.{ones-most, weight-small}
+use Rattle.tables.specs.declared.counts.Counts.{Counts}
+use Rattle.values.specs.Values.{valuesEnd, valueAt, dffAt, Reads, Gated}
+use Rattle.values.proofs.Turns.{input-is, input-first}
+use Rattle.evaluate.specs.Passes.{forwardTo, outputByte, newState, newByte, aboveOne, cellAbove, Passing, Putting}
+use Rattle.evaluate.specs.Cycle.{Ran}
 
--- ---- a signal's value
-
-pub slot-inside : (s i : ℕ) (t : List ℕ) → i ≡ slot s → valuesEnd ≤ length t → 4672 + i < length t
-slot-inside s i t e h = let l = slot-below s in omega arith
-
-pub slot-is : (s m r : ℕ) → m ≡ bitAnd (s / 2) 2047 → r ≡ m → r ≡ slot s
-slot-is s m r e f = f ∙ e ∙ mask-slot s
-
--- a bit is at most one
-pub bit-low : (b : Bool) → bit b ≤ 1
-bit-low true = omega arith
-bit-low false = omega arith
+-- ---- a flip-flop's inputs
 
 module _ (f t : List ℕ) (first : ℕ) where
-  -- the j-th input's value, as the code reads it
-  pub input-is : (j x : ℕ) (b : Bool) → x ≡ inputAt f (first + j) → b ≡ valueAt t x → b ≡ inputValue f t first j
-  unfolding inputValue
-  input-is j x b p q = q ∙ ap (valueAt t) p
-
-  pub input-first : (x : ℕ) (b : Bool) → x ≡ inputAt f first → b ≡ valueAt t x → b ≡ inputValue f t first 0
-  input-first x b p q = let z : first + 0 ≡ first = omega arith in input-is 0 x b (rw z p) q
-
-  pub mux-is : (x y z : ℕ) (s a b : Bool) → x ≡ inputAt f first → s ≡ valueAt t x → y ≡ inputAt f (first + 1) → a ≡ valueAt t y
-      → z ≡ inputAt f (first + 2) → b ≡ valueAt t z
-      → (s && a || not s && b) ≡ cond (inputValue f t first 0) (inputValue f t first 1) (inputValue f t first 2)
-  mux-is x y z s a b p p′ q q′ r r′ =
-      taut3 (λ s a b. s && a || not s && b) (λ s a b. cond s a b) tt s a b
-      ∙ rw (← input-first x s p p′, ← input-is 1 y a q q′, ← input-is 2 z b r r′)
-
   pub state-is : (x y z : ℕ) (d en res q r : Bool) → x ≡ inputAt f first → d ≡ valueAt t x → y ≡ inputAt f (first + 1) → en ≡ valueAt t y
       → z ≡ inputAt f (first + 2) → res ≡ valueAt t z → r ≡ nextState (d ∷ en ∷ res ∷ []) q → r ≡ newState f t first q
   unfolding newState
-  state-is x y z d en res q r a a′ b b′ c c′ e = e ∙ rw (← input-first x d a a′, ← input-is 1 y en b b′, ← input-is 2 z res c c′)
-
-  -- ---- ones
-
-  pub record Ones (n j count : ℕ) : Type 0 where
-    pub few : j ≤ count
-    pub sum : n ≡ onesTo (inputValue f t first) j
-
-  pub ones-none : (count : ℕ) → Ones 0 0 count
-  unfolding onesTo
-  ones-none count = record { few = omega arith; sum = refl }
-
-  pub ones-fits : (n j count o w : ℕ) (b : Bool) → Ones n j count → first + count ≤ 2048 → j < count → o ≡ bit b → w ≡ o → Fits w64 (n + w)
-  ones-fits n j count o w b h r l p q =
-      let m = ones-most (inputValue f t first) j in
-      let u = bit-low b in
-      record { fits = rw (h .sum) (omega arith) }
-
-  pub ones-more : (n j count x o w : ℕ) (b : Bool) → Ones n j count → j < count → x ≡ inputAt f (first + j) → b ≡ valueAt t x → o ≡ bit b → w ≡ o
-      → Ones (n + w) (j + 1) count
-  unfolding onesTo
-  ones-more n j count x o w b h l p q r e =
-      record { few = omega arith; sum = rw (add-one, e, r, input-is j x b p q) (ap (λ k. k + bit (inputValue f t first j)) (h .sum)) }
-
-  pub ones-all : (n j count : ℕ) → Ones n j count → count ≤ j → n ≡ onesTo (inputValue f t first) count
-  ones-all n j count h l = let e : j ≡ count = le-antisymm (h .few) l in h .sum ∙ rw e
-
-  -- ---- weight
-
-  pub record Weight (w j count : ℕ) : Type 0 where
-    pub few : j ≤ count
-    pub short : count ≤ 6
-    pub sum : w ≡ weight (drop j (tab (inputValue f t first) count))
-
-  pub weight-none : (count : ℕ) → count ≤ 6 → Weight 0 count count
-  weight-none count h =
-      let e : length (tab (inputValue f t first) count) ≡ count = length-tab _ count in
-      let l : length (tab (inputValue f t first) count) ≤ count = omega arith in
-      record { few = omega arith; short = h; sum = rw (drop-of-length-le (tab (inputValue f t first) count) l) }
-
-  pub weight-low : (w j count : ℕ) → Weight w j count → w < 64
-  weight-low w j count h =
-      let e : length (drop j (tab (inputValue f t first) count)) ≤ 6 = rw (length-drop, length-tab) (let s = h .short in omega arith) in
-      rw (h .sum) (weight-small 6 (drop j (tab (inputValue f t first) count)) e)
-
-  pub weight-twice : (w j count : ℕ) → Weight w j count → Fits w64 (2 * w)
-  weight-twice w j count h = let l = weight-low w j count h in record { fits = omega arith }
-
-  pub weight-fits : (w j count o y : ℕ) (b : Bool) → Weight w j count → o ≡ bit b → y ≡ o → Fits w64 (2 * w + y)
-  weight-fits w j count o y b h p q = let l = weight-low w j count h in let u = bit-low b in record { fits = omega arith }
-
-  pub weight-more : (w j count x o y : ℕ) (b : Bool) → Weight w j count → 0 < j → x ≡ inputAt f (first + (j - 1)) → b ≡ valueAt t x → o ≡ bit b → y ≡ o
-      → Weight (2 * w + y) (j - 1) count
-  weight-more w j count x o y b h l p q r e =
-      let g = inputValue f t first in
-      let k : suc (j - 1) ≡ j = omega arith in
-      let d : weight (drop (suc (j - 1)) (tab g count)) ≡ w = ap (λ m. weight (drop m (tab g count))) k ∙ sym (h .sum) in
-      let c : weight (drop (j - 1) (tab g count)) ≡ bit (g (j - 1)) + 2 * weight (drop (suc (j - 1)) (tab g count)) =
-      ap weight (drop-tab g count (j - 1) false (let m = h .few in omega arith)) in
-      let u : y ≡ bit (g (j - 1)) = e ∙ r ∙ ap bit (input-is (j - 1) x b p q) in
-      record { few = let m = h .few in omega arith; short = h .short; sum = omega arith }
-
-  pub weight-all : (w j count : ℕ) → Weight w j count → j ≤ 0 → w ≡ weight (tab (inputValue f t first) count)
-  weight-all w j count h l = let e : j ≡ 0 = omega arith in h .sum ∙ rw e
+  state-is x y z d en res q r a a′ b b′ c c′ e = e ∙ rw (← input-first f t first x d a a′, ← input-is f t first 1 y en b b′, ← input-is f t first 2 z res c c′)
 
 -- ---- a test of some number
 
@@ -247,4 +157,16 @@ dff-reads f t st v n first b h l p e a =
 pub passing-gated : (f t t′ st : List ℕ) (v n : ℕ) → Passing f t st n → v < n → length t′ ≡ length t → Gated f t′ v
 passing-gated f t t′ st v n h l e = gated-on f t t′ v (h .gates v l) e
 
-pub ruleset turns = (slot-inside, slot-is, reads-value, mux-is, state-is, ones-none, ones-fits, ones-more, ones-all, weight-none, weight-twice, weight-fits, weight-more, weight-all, none-yet, none-low, none-cell, none-all, some-high, some-cell, filled-none, filled-all, passing-gated, dff-reads, state-stays, state-goes, output-goes)
+pub passing-on : (f t t′ st : List ℕ) (n : ℕ) → Passing f t st n → length t′ ≡ length t → Passing f t′ st n
+passing-on f t t′ st n h e =
+    record { few = h .few; long = h .long; room = rw e (h .room); gates = λ v l. gated-on f t t′ v (h .gates v l) e; states = h .states }
+
+pub putting-on : (f t t′ out : List ℕ) (o : ℕ) → Putting f t out o → length t′ ≡ length t → Putting f t′ out o
+putting-on f t t′ out o h e = record { few = h .few; long = h .long; room = rw e (h .room); outs = h .outs }
+
+-- the passes one after the other
+pub ran-is : (f t t′ : List ℕ) (c : Counts) (st out st′ out′ : List ℕ) → t′ ≡ forwardTo f st t (c .nodes)
+    → out′ ≡ laidOver (tab (outputByte f t′) (c .outs)) out → st′ ≡ laidOver (tab (newByte f t′ st) (c .nodes)) st → Ran f t c st out st′ out′
+ran-is f t t′ c st out st′ out′ p q r = record { outputs = rw (← p) q; states = rw (← p) r }
+
+pub ruleset turns = (state-is, none-yet, none-cell, none-all, some-cell, filled-none, filled-all, passing-gated, dff-reads, state-stays, state-goes, output-goes, passing-on, putting-on, ran-is)

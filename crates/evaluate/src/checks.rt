@@ -1,32 +1,41 @@
-// The numbers that a cycle itself can give: 13 and 14.
+// The numbers that a cycle itself can give: 13 by lengths, 14 by bytes. The bytes of the inputs are looked at and put down in one pass.
 ghost use mathlib.Core.Path.{_≡_};
 ghost use Prim.Native.Nat.{_≤_};
 ghost use lib.ListN.{length};
 ghost use Rattle.laws.specs.Lists.{someBelow};
-ghost use Rattle.model.specs.Evaluate.{cycleRefusal};
 ghost use Rattle.tables.specs.Layout.{netSize};
-ghost use Rattle.tables.specs.Holding.{networkOf, Held};
-ghost use Rattle.evaluate.specs.Values.{aboveOne, cellAbove};
-use crate::gate::is_dff;
+ghost use Rattle.values.specs.Values.{valuesEnd};
+ghost use Rattle.evaluate.specs.Passes.{inputsTo, aboveOne, cellAbove, shorter};
 use tables::counts::Counts;
+use tables::scratch::put_word;
+use values::gate::is_dff;
+use values::reading::VALUES;
+use values::reading::one_if;
 
-// One of the first i bytes is above 1.
-fn input_above(inputs: &[u8], i: usize) -> bool
-    requires { ⌜ i ≤ length (now inputs) ⌝ }
-    ensures { λ r. ⌜ r ≡ someBelow (aboveOne (now (inputs .entry))) i ⌝ }
+// Lengths lent for inputs, state and outputs, of which one is too short.
+pub fn short(counts: Counts, inputs: usize, state: usize, outputs: usize) -> bool
+    ensures { λ r. ⌜ r ≡ shorter counts inputs state outputs ⌝ }
 {
+    (outputs < counts.outs) | (inputs < counts.inputs) | (state < counts.nodes)
+}
+
+// The inputs' values, from the far end of the table; whether one of their bytes is above 1.
+pub fn take_inputs(to: &mut [u32], inputs: &[u8], i: usize) -> bool
+    requires { ⌜ (valuesEnd ≤ length (now to)) × (i ≤ length (now inputs)) × (i ≤ 1024) ⌝ }
+    ensures { λ r. ⌜ (now (to .exit) ≡ inputsTo (now (inputs .entry)) (now (to .entry)) i) × (r ≡ someBelow (aboveOne (now (inputs .entry))) i) ⌝ }
+{
+    let mut above = false;
     let mut k: usize = 0;
     while k < i {
-        if 1 < inputs[k] {
-            return true;
-        }
+        put_word(to, VALUES, 2047 - k, one_if(inputs[k] == 1));
+        above = above | (1 < inputs[k]);
         k += 1;
     }
-    false
+    above
 }
 
 // The state byte of a flip-flop is above 1.
-fn state_above(from: &[u32], state: &[u8], n: usize) -> bool
+pub fn state_above(from: &[u32], state: &[u8], n: usize) -> bool
     requires { ⌜ (n ≤ 512) × (netSize ≤ length (now from)) × (n ≤ length (now state)) ⌝ }
     ensures { λ r. ⌜ r ≡ someBelow (cellAbove (now (from .entry)) (now (state .entry))) n ⌝ }
 {
@@ -38,18 +47,4 @@ fn state_above(from: &[u32], state: &[u8], n: usize) -> bool
         v += 1;
     }
     false
-}
-
-// 13, 14 or 0; room is the length lent for the outputs.
-pub fn refusal(from: &[u32], counts: Counts, inputs: &[u8], state: &[u8], room: usize) -> u32
-    requires { ⌜ Held (now from) counts ⌝ }
-    ensures { λ r. ⌜ r ≡ cycleRefusal (networkOf (now (from .entry)) counts) (now (inputs .entry)) (now (state .entry)) room ⌝ }
-{
-    if (room < counts.outs) | (inputs.len() < counts.inputs) | (state.len() < counts.nodes) {
-        return 13;
-    }
-    if input_above(inputs, counts.inputs) | state_above(from, state, counts.nodes) {
-        return 14;
-    }
-    0
 }

@@ -3,36 +3,27 @@ ghost use lib.ListN.{length};
 ghost use Rattle.model.specs.Entries.{cycleOutcome};
 ghost use Rattle.tables.specs.Holding.{networkOf};
 ghost use Rattle.tables.specs.Working.{Answered2};
-ghost use Rattle.evaluate.specs.Cycle.{Runs, Ready, Cycled};
-use crate::checks::refusal;
+ghost use Rattle.evaluate.specs.Passes.{Passing, Putting};
+ghost use Rattle.evaluate.specs.Cycle.{Runs, Ran};
+use crate::checks::short;
+use crate::checks::state_above;
+use crate::checks::take_inputs;
 use crate::passes::forward;
 use crate::passes::put_outputs;
 use crate::passes::put_states;
-use crate::values::VALUES;
-use crate::values::put_inputs;
 use answers::Answer;
 use tables::counts::Counts;
 use tables::scratch::put_word;
+use values::reading::VALUES;
 
 pub mod checks;
-pub mod gate;
 pub mod passes;
-pub mod values;
 
-// The cycle itself, of bytes that no number refuses.
-fn cycle(
-    from: &[u32],
-    to: &mut [u32],
-    counts: Counts,
-    inputs: &[u8],
-    state: &mut [u8],
-    outputs: &mut [u8],
-)
-    requires { ⌜ Ready (now from) (now to) counts (now inputs) (now state) (now outputs) ⌝ }
-    ensures { λ _. ⌜ Cycled (networkOf (now (from .entry)) counts) (now (inputs .entry)) (now (state .entry)) (now (outputs .entry)) (now (state .exit)) (now (outputs .exit)) ⌝ }
+// The cycle itself, once the inputs' values are put down.
+fn cycle(from: &[u32], to: &mut [u32], counts: Counts, state: &mut [u8], outputs: &mut [u8])
+    requires { ⌜ Passing (now from) (now to) (now state) (counts .nodes) × Putting (now from) (now to) (now outputs) (counts .outs) ⌝ }
+    ensures { λ _. ⌜ Ran (now (from .entry)) (now (to .entry)) counts (now (state .entry)) (now (outputs .entry)) (now (state .exit)) (now (outputs .exit)) ⌝ }
 {
-    put_word(to, VALUES, 0, 0);
-    put_inputs(to, inputs, counts.inputs);
     forward(from, to, state, counts.nodes);
     put_outputs(from, to, outputs, counts.outs);
     put_states(from, to, state, counts.nodes);
@@ -50,10 +41,14 @@ pub fn evaluate(
     requires { ⌜ Runs (now from) (now to) counts ⌝ }
     ensures { λ r. ⌜ Answered2 (cycleOutcome (networkOf (now (from .entry)) counts) (now (inputs .entry)) (now (state .entry)) (length (now (outputs .entry)))) (now (outputs .entry)) (now (state .entry)) r (now (outputs .exit)) (now (state .exit)) ⌝ }
 {
-    let n = refusal(from, counts, inputs, state, outputs.len());
-    if n != 0 {
-        return Answer::Refused(n);
+    if short(counts, inputs.len(), state.len(), outputs.len()) {
+        return Answer::Refused(13);
     }
-    cycle(from, to, counts, inputs, state, outputs);
+    put_word(to, VALUES, 0, 0);
+    let above = take_inputs(to, inputs, counts.inputs);
+    if above | state_above(from, state, counts.nodes) {
+        return Answer::Refused(14);
+    }
+    cycle(from, to, counts, state, outputs);
     Answer::Accepted(0)
 }

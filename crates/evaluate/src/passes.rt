@@ -6,16 +6,17 @@ ghost use Rattle.laws.specs.Bools.{bit};
 ghost use Rattle.laws.specs.Lists.{tab};
 ghost use Rattle.model.specs.Evaluate.{nextState};
 ghost use Rattle.model.specs.Answers.{laidOver};
-ghost use Rattle.evaluate.specs.Values.{forwardTo, outputByte, newState, newByte, Reads, Passing, Putting};
-use crate::gate::is_dff;
-use crate::gate::node_value;
-use crate::values::VALUES;
-use crate::values::one_if;
-use crate::values::value;
+ghost use Rattle.values.specs.Values.{Reads};
+ghost use Rattle.evaluate.specs.Passes.{forwardTo, outputByte, newState, newByte, Passing, Putting};
 use tables::layout::first_at;
 use tables::layout::input_at;
 use tables::layout::output_at;
 use tables::scratch::put_word;
+use values::gate::is_dff;
+use values::gate::node_value;
+use values::reading::VALUES;
+use values::reading::one_if;
+use values::reading::value;
 
 // The forward pass: each node's value, by the values of the nodes before it.
 pub fn forward(from: &[u32], to: &mut [u32], state: &[u8], n: usize)

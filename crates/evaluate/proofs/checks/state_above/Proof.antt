@@ -1,7 +1,7 @@
 -- The loop keeps that no flip-flop's byte passed is above 1.
 use Prim.Native.Nat.{_-_}
 use Rattle.evaluate.proofs.Turns.{None, turns}
-use Rattle.evaluate.specs.Values.{cellAbove}
+use Rattle.evaluate.specs.Passes.{cellAbove}
 use borrow.Author.Needs.{needs}
 use Rattle.evaluate.proofs.checks.state_above.Statement.{statement}
 use Rattle.evaluate.proofs.checks.state_above.Tie as tie

@@ -5,7 +5,7 @@ use native.Mathlib.Nat.{le-antisymm}
 use native.Mathlib.Omega.{arith}
 use native.Mathlib.Numerals.{add-one}
 use lib.ListN.{length}
-use Rattle.evaluate.specs.Values.{forwardTo}
+use Rattle.evaluate.specs.Passes.{forwardTo}
 use borrow.Author.Needs.{needs}
 use Rattle.evaluate.proofs.Turns.{turns}
 use Rattle.evaluate.proofs.passes.forward.Statement.{statement}

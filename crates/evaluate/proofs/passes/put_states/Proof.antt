@@ -1,7 +1,7 @@
 -- The buffer is filled from the front; the byte of a node that is no flip-flop stays.
 use Prim.Native.Nat.{_-_}
 use Rattle.evaluate.proofs.Turns.{Filled, state-goes, turns}
-use Rattle.evaluate.specs.Values.{newByte}
+use Rattle.evaluate.specs.Passes.{newByte}
 use borrow.Author.Needs.{needs}
 use Rattle.evaluate.proofs.passes.put_states.Statement.{statement}
 use Rattle.evaluate.proofs.passes.put_states.Tie as tie
