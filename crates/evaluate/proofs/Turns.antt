@@ -8,7 +8,7 @@ use mathlib.Core.Bool.{Bool, true, false, not, _&&_}
 use mathlib.Core.List.{List, [], _∷_, _++_}
 use lib.ListN.{length, getD, set, drop, length-set}
 use lib.Dec.{eqb, ltb}
-use borrow.Author.Tests.{lt-ltb, le-ltb, eqb-true, not-true, not-false}
+use borrow.Author.Tests.{eqb-true, not-true, not-false}
 use Rattle.kinds.specs.Kinds.{kindOf, isFlipFlop}
 use Rattle.kinds.specs.declared.Kind.{Kind}
 use Rattle.kinds.specs.declared.Kind.the-variants.{And2, Xor2, And3, Xor3, Maj, Mux, AndN, OrN, NandN, NorN, XorN, XnorN, Buf, Dff, Lut}
@@ -24,7 +24,7 @@ use Rattle.tables.specs.Layout.{kindAt, firstAt, countAt, inputAt, outputAt}
 use Rattle.tables.specs.declared.counts.Counts.{Counts}
 use Rattle.values.specs.Values.{valuesEnd, valueAt, dffAt, Reads, Gated}
 use Rattle.values.proofs.Turns.{input-is, input-first}
-use Rattle.evaluate.specs.Passes.{forwardTo, outputByte, newState, newByte, aboveOne, cellAbove, Passing, Putting}
+use Rattle.evaluate.specs.Passes.{forwardTo, outputByte, newState, newByte, cellAbove, Passing, Putting}
 use Rattle.evaluate.specs.Cycle.{Ran}
 
 -- ---- a flip-flop's inputs
@@ -86,12 +86,6 @@ module _ (g : ℕ → ℕ) (l₀ : List ℕ) where
   pub filled-all : (l : List ℕ) (k n : ℕ) → Filled g l₀ l k n → n ≤ k → l ≡ laidOver (tab g n) l₀
   unfolding laidOver
   filled-all l k n h r = let e : k ≡ n = le-antisymm (h .few) r in h .is ∙ rw (e, length-tab g n)
-
-pub none-low : (l : List ℕ) (k n : ℕ) → None (aboveOne l) k n → k < n → getD l k 0 ≤ 1 → None (aboveOne l) (k + 1) n
-none-low l k n h r e = none-more (aboveOne l) k n h r (le-ltb 1 (getD l k 0) e)
-
-pub some-high : (l : List ℕ) (k n : ℕ) → k < n → 1 < getD l k 0 → true ≡ someBelow (aboveOne l) n
-some-high l k n r e = some-here (aboveOne l) k n r (lt-ltb 1 (getD l k 0) e)
 
 pub none-cell : (f st : List ℕ) (k n : ℕ) (b : Bool) → None (cellAbove f st) k n → k < n → b ≡ dffAt f k → (b && ltb 1 (getD st k 0)) ≡ false → None (cellAbove f st) (k + 1) n
 none-cell f st k n b h r p e = none-more (cellAbove f st) k n h r (rw p at e)
