@@ -6,12 +6,14 @@ use mathlib.Core.Bool.{Bool, true, false, cond}
 use mathlib.Core.List.{List, [], _∷_, _++_}
 use mathlib.Core.Option.{Option, none, some}
 use native.Mathlib.Omega.{arith}
-use native.Mathlib.Nat.{le-refl}
+use native.Mathlib.Nat.{le-refl, le-antisymm}
 use native.Mathlib.Decide.{ℕ-discrete}
 use native.Mathlib.Numerals.{add-one}
 use lib.ListN.{length, getD}
 use lib.Dec.{eqb}
 use borrow.Author.Tests.{eq-eqb, ne-eqb}
+use mir.Val.{Fits}
+use mir.Syntax.{w64}
 use Rattle.laws.specs.Lists.{tab}
 use Rattle.laws.proofs.Tabs.{length-tab, getD-tab}
 use Rattle.laws.proofs.Choices.{by-bool, by-eq}
@@ -22,8 +24,8 @@ use Rattle.tables.specs.Layout.{gateAt, nodesOf, cell, store}
 use Rattle.tables.proofs.Places.{length-store, cell-store, cell-store-other}
 use Rattle.tables.proofs.Building.{nodesOf-next, nodesOf-none}
 use Rattle.tables.proofs.Holding.{length-nodesOf}
-use Rattle.dedup.specs.Lists.{listBase, listed, asOption}
-use Rattle.dedup.specs.Chains.{stir, stirred, bucketOf, bucketsOf, lastIn, headBase, linkBase, Chained, joined, Seeks}
+use Rattle.dedup.specs.Lists.{listBase, filled, listed, asOption}
+use Rattle.dedup.specs.Chains.{stir, stirred, bucketOf, bucketsOf, lastIn, headBase, linkBase, Chained, joined, emptied, Seeks}
 use Rattle.dedup.specs.declared.find.Found.{Found}
 use Rattle.dedup.specs.declared.find.Found.the-variants.{At, Nothing}
 use Rattle.dedup.proofs.Searches.{find-none, find-some, find-here}
@@ -58,6 +60,50 @@ bucket-listed l k n lo hi =
     let e : stirred k (λ j. getD t j 0) (length t) ≡ stirred k (cell l listBase) n =
     ap (stirred k (λ j. getD t j 0)) (length-tab (cell l listBase) n) ∙ stirred-same k _ _ n (λ j q. getD-tab (cell l listBase) n j 0 q) in
     sym (ap (λ (a : ℕ). stir a ((lo + 2 ^ 32 * hi) % 4294967291) / 16777216) e)
+
+-- the loop
+module _ (l : List ℕ) (k n : ℕ) (P : (16384 ≤ length l) × (n ≤ 2048)) where
+  abbrev Stirring : ℕ → ℕ → Type 0
+  Stirring a j = (j ≤ n) × (a < 4294967296) × (a ≡ stirred k (cell l listBase) j)
+
+  pub stir-none : (a : ℕ) → k < 4294967296 → a ≡ k → Stirring a 0
+  unfolding stirred
+  stir-none a h e = (omega arith, rw e h, e)
+
+  module _ (a j : ℕ) (I : Stirring a j) where
+    pub stir-word : j < n → listBase + j < length l
+    stir-word h = omega (arith, P .0, P .1)
+
+    pub stir-next : j < n → (x b : ℕ) → x ≡ cell l listBase j → b ≡ stir a x → Stirring b (j + 1)
+    unfolding stirred
+    stir-next h x b ex eb = (omega arith, rw eb (stir-small a x), rw add-one (eb ∙ ap₂ stir (I .2) ex))
+
+    pub stir-end : n ≤ j → a ≡ stirred k (cell l listBase) n
+    stir-end h = I .2 ∙ ap (stirred k (cell l listBase)) (le-antisymm (I .0) h)
+
+-- ---- the chains emptied
+
+module _ (l : List ℕ) where
+  abbrev Emptying : List ℕ → ℕ → Type 0
+  Emptying m h = (h ≤ 256) × (length m ≡ length l) × (m ≡ emptied l h)
+
+  pub empty-none : Emptying l 0
+  unfolding filled
+  empty-none = (omega arith, refl, refl)
+
+  module _ (m : List ℕ) (h : ℕ) (I : Emptying m h) where
+    pub empty-word : 16384 ≤ length l → h < 256 → headBase + h < length m
+    empty-word z q = omega (arith, I .1)
+
+    pub empty-count : h < 256 → Fits w64 (h + 1)
+    empty-count q = record { fits = omega arith }
+
+    pub empty-next : h < 256 → (o : List ℕ) → length o ≡ length m → o ≡ store m headBase h 0 → Emptying o (h + 1)
+    unfolding filled
+    empty-next q o k eo = (omega arith, k ∙ I .1, rw add-one (eo ∙ ap (λ (x : List ℕ). store x headBase h 0) (I .2)))
+
+    pub empty-end : 256 ≤ h → m ≡ emptied l 256
+    empty-end q = I .2 ∙ ap (emptied l) (le-antisymm (I .0) q)
 
 -- ---- the last node of a bucket
 

@@ -1,4 +1,7 @@
+pub mod Turns
 pub mod Areas
+pub mod Fills
+pub mod Endings
 pub mod Searches
 pub mod Chains
 pub mod Standing

@@ -29,7 +29,7 @@ use Rattle.gates.specs.declared.Normalization.the-variants.{Copy, Node}
 use Rattle.gates.specs.Normals.{normalOf, Listed, Shaped}
 use Rattle.shape.proofs.DedupNormal.{NormLaw, asIs-law, canonical-law, made-few}
 use Rattle.shape.proofs.DedupSweep.{shaped-remap}
-use Rattle.dedup.specs.Lists.{listBase, trOf, lookedUp, gathered, normOf, listed, withTable, countOf}
+use Rattle.dedup.specs.Lists.{listBase, trOf, lookedUp, gathered, normOf, listed, withTable, countOf, Gathers}
 use Rattle.dedup.specs.Chains.{headBase, linkBase}
 use Rattle.dedup.specs.States.{Stands, workOf, Room, Settles, Asks, Did, askedGate}
 use Rattle.dedup.specs.declared.Built.{Built}
@@ -154,6 +154,13 @@ module _ (m ys : List ℕ) (z : 16384 ≤ length m) where
       ap length back-is ∙ length-append (take listBase m) ys ∙ omega (arith, front)
 
 -- ---- the whole of one node
+
+module _ (src l : List ℕ) (v : ℕ) (b : Built) (A : Asks src l v b) where
+  pub asks-node : (v < 512) × (netSize ≤ length src)
+  asks-node = (A .node, A .source)
+
+  pub asks-gather : (f n : ℕ) → n ≡ countAt src v → f ≡ firstAt src v → Gathers src l f n
+  asks-gather f n en ef = record { source = A .source; long = A .room .stands .long; ends = rw (en, ef) (A .ends) }
 
 module _ (src l : List ℕ) (v : ℕ) (b : Built) (A : Asks src l v b) (c can : Bool) where
   abbrev gate : Gate

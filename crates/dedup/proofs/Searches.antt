@@ -1,27 +1,26 @@
 -- The search for an equal gate, word by word.
-use Prim.Native.Nat.{ℕ, suc, _+_, _*_, _^_, _<_}
+use Prim.Native.Nat.{ℕ, suc, _+_, _*_, _^_, _≤_, _<_}
 use mathlib.Core.Path.{_≡_, refl, sym, ap, _∙_}
-use mathlib.Core.Bool.{Bool, true, false, _&&_}
+use mathlib.Core.Bool.{Bool, true, false, _&&_, and-false}
 use mathlib.Core.List.{List, [], _∷_, _++_}
 use mathlib.Core.Option.{Option, none, some}
 use native.Mathlib.Omega.{arith}
+use native.Mathlib.Nat.{le-antisymm}
 use native.Mathlib.Decide.{ℕ-discrete}
 use native.Mathlib.Numerals.{add-one}
 use lib.ListN.{length, getD}
 use lib.Dec.{eqb}
 use borrow.Author.Tests.{eq-eqb, ne-eqb}
+use mir.Val.{Fits}
+use mir.Syntax.{w64}
 use Rattle.laws.specs.Lists.{tab}
 use Rattle.laws.proofs.Tabs.{length-tab, getD-tab}
 use Rattle.laws.proofs.Choices.{by-bool}
 use Rattle.model.specs.Gate.{Gate}
 use Rattle.model.specs.Network.{sameList, sameGate, findStep, findGate}
 use Rattle.shape.proofs.DedupPlace.{sameList-eq}
-use Rattle.tables.specs.Layout.{kindAt, firstAt, countAt, inputAt, lowAt, highAt, insAt, gateAt, cell}
+use Rattle.tables.specs.Layout.{netSize, kindAt, firstAt, countAt, inputAt, lowAt, highAt, insAt, gateAt, cell}
 use Rattle.dedup.specs.Lists.{listBase, sameIns, listed, Searched}
-
-and-false : (a : Bool) → a && false ≡ false
-and-false true = refl
-and-false false = refl
 
 -- ---- equal lists
 
@@ -56,6 +55,24 @@ module _ (l : List ℕ) (f : ℕ) where
       (λ e. absurd (d (sym (getD-tab ours n j 0 h) ∙ ap (λ (m : List ℕ). getD m j 0) (sameList-eq (tab ours n) (tab theirs n) e) ∙ getD-tab theirs n j 0 h)))
       (λ e. sym e)
 
+  -- the loop
+  module _ (n : ℕ) (P : (16384 ≤ length l) × (f + n ≤ 2048)) (j : ℕ) where
+    module _ (h : j < n) where
+      pub same-word : listBase + j < length l
+      same-word = omega (arith, P .0, P .1)
+
+      pub same-place : Fits w64 (f + j)
+      same-place = record { fits = omega (arith, P .1) }
+
+      pub same-input : (f + j < 2048) × (netSize ≤ length l)
+      same-input = (omega (arith, P .1), omega (arith, P .0))
+
+      pub same-count : Fits w64 (j + 1)
+      same-count = record { fits = omega (arith, P .1) }
+
+    pub same-end : j ≤ n → n ≤ j → sameIns l f j ≡ true → true ≡ sameIns l f n
+    same-end a b e = sym e ∙ ap (sameIns l f) (le-antisymm a b)
+
 -- a table is its two words
 table-eq : (a b c d : ℕ) → a < 2 ^ 32 → c < 2 ^ 32 → (eqb a c && eqb b d) ≡ eqb (a + 2 ^ 32 * b) (c + 2 ^ 32 * d)
 table-eq a b c d p q = elim (ℕ-discrete a c) [
@@ -67,6 +84,14 @@ table-eq a b c d p q = elim (ℕ-discrete a c) [
 ]
 
 -- ---- the gate in the list, and node w's
+
+module _ (l : List ℕ) (w : ℕ) (s : Searched l (w + 1)) where
+  pub node-in : (w < 512) × (netSize ≤ length l)
+  node-in = (omega (arith, s .few), omega (arith, s .long))
+
+-- its inputs stand in the input table
+pub inputs-in : (l : List ℕ) (w n f : ℕ) → Searched l (w + 1) → f ≡ firstAt l w → n ≡ countAt l w → (16384 ≤ length l) × (f + n ≤ 2048)
+inputs-in l w n f s e q = (s .long, rw (e, q) (s .ends w (omega arith)))
 
 module _ (l : List ℕ) (w k n lo hi : ℕ) where
   pub kind-differs : (k ≡ kindAt l w → ⊥) → false ≡ sameGate (listed l k n lo hi) (gateAt l w)

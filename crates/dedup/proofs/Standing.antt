@@ -9,6 +9,8 @@ use native.Mathlib.Numerals.{add-one}
 use native.Mathlib.Decide.{ℕ-discrete}
 use lib.ListN.{length, getD, take, drop}
 use lib.Seq.{getD-set-other}
+use mir.Val.{Fits}
+use mir.Syntax.{w32, w64}
 use Rattle.laws.specs.Lists.{tab}
 use Rattle.laws.proofs.Tabs.{length-tab}
 use Rattle.kinds.specs.Kinds.{codeOf}
@@ -95,6 +97,40 @@ pub room-seeks : (l : List ℕ) (b : Built) (k n lo hi h : ℕ) → Room l b n �
 room-seeks l b k n lo hi h R e = record { searched = stands-searched l b (R .stands); chained = R .chained; bucket = e }
 
 -- ---- a gate appended
+
+-- store by store
+pub appended : (l p q s m : List ℕ) (b : Built) (h k n lo hi : ℕ) (r : Built) → p ≡ putInputs l (b .fanin) (cell l listBase) n → q ≡ putGate p (b .nodes) k (b .fanin) n
+    → s ≡ putTable q (b .nodes) lo hi → m ≡ joined s (b .nodes) h → r .nodes ≡ b .nodes + 1 → r .fanin ≡ b .fanin + n → Appended l m b h k n lo hi r
+unfolding putNode
+appended l p q s m b h k n lo hi r ep eq es em en ef = record {
+  words = em
+      ∙ ap (λ (x : List ℕ). joined x (b .nodes) h) (es ∙ ap (λ (x : List ℕ). putTable x (b .nodes) lo hi) (eq ∙ ap (λ (x : List ℕ). putGate x (b .nodes) k (b .fanin) n) ep));
+  nodes-is = en;
+  fanin-is = ef;
+}
+
+-- what the stores ask, of an area as long as l
+module _ (l : List ℕ) (b : Built) (n : ℕ) (R : Room l b n) where
+  pub append-asks : (16384 ≤ length l) × (b .fanin + n ≤ 2048)
+  append-asks = (R .stands .long, R .fits)
+
+  pub append-node : (m : List ℕ) → length m ≡ length l → (b .nodes < 512) × (netSize ≤ length m)
+  append-node m e = (R .more, omega (arith, e, R .stands .long))
+
+  pub append-join : (m : List ℕ) (h : ℕ) → length m ≡ length l → h < 256 → (16384 ≤ length m) × (b .nodes < 512) × (h < 256)
+  append-join m h e q = (rw e (R .stands .long), R .more, q)
+
+  pub append-first : Fits w32 (b .fanin)
+  append-first = record { fits = omega (arith, R .fits) }
+
+  pub append-inputs : Fits w32 n
+  append-inputs = record { fits = omega (arith, R .fits) }
+
+  pub append-nodes : Fits w64 (b .nodes + 1)
+  append-nodes = record { fits = omega (arith, R .more) }
+
+  pub append-fanin : Fits w64 (b .fanin + n)
+  append-fanin = record { fits = omega (arith, R .fits) }
 
 module _ (l : List ℕ) (b : Built) (k n lo hi : ℕ) (R : Room l b n) where
   abbrev put : List ℕ

@@ -4,10 +4,12 @@ use mathlib.Core.Path.{_≡_, refl, sym, ap, ap₂, _∙_, subst}
 use mathlib.Core.Bool.{Bool, true, false, not, cond, Bool·beq}
 use mathlib.Core.List.{List, [], _∷_, _++_, map}
 use native.Mathlib.Omega.{arith}
-use native.Mathlib.Nat.{le-refl}
+use native.Mathlib.Nat.{le-antisymm}
 use native.Mathlib.Numerals.{add-one}
 use lib.ListN.{length, getD}
 use lib.Dec.{eqb}
+use mir.Val.{Fits}
+use mir.Syntax.{w64}
 use Rattle.laws.proofs.Bools.{true-false}
 use Rattle.laws.proofs.Choices.{by-bool}
 use Rattle.kinds.specs.Kinds.{kindOf, isFlipFlop}
@@ -146,6 +148,16 @@ module _ (src : List ℕ) (c : Counts) (can : Bool) (H : Held src c) where
     }
 
 -- ---- the loop
+
+module _ (src l : List ℕ) (c : Counts) (cells can : Bool) (v : ℕ) (b : Built) (S : Sweeping src l c cells can v b) where
+  pub sweep-kind : v < c .nodes → (v < 512) × (netSize ≤ length src)
+  sweep-kind h = (omega (arith, nodes-few src c (S .held)), S .held .long)
+
+  pub sweep-count : v < c .nodes → Fits w64 (v + 1)
+  sweep-count h = record { fits = omega (arith, nodes-few src c (S .held)) }
+
+  pub sweep-end : v ≤ c .nodes → c .nodes ≤ v → Sweeping src l c cells can (c .nodes) b
+  sweep-end a z = subst (λ (k : ℕ). Sweeping src l c cells can k b) (le-antisymm a z) S
 
 module _ (src l : List ℕ) (c : Counts) (cells can : Bool) (v : ℕ) (b : Built) (S : Sweeping src l c cells can v b) (h : v < c .nodes) (x : ℕ) (t : Bool)
     (ex : x ≡ kindAt src v) (et : t ≡ isFlipFlop (kindOf x)) where

@@ -1,10 +1,9 @@
-use Prim.Native.Nat.{ℕ, _≤_, _-_, _+_}
-use mathlib.Core.Path.{_≡_, refl}
-use native.Mathlib.Numerals.{add-one}
-use native.Mathlib.Omega.{arith}
+use Prim.Native.Nat.{ℕ, _≤_, _-_}
+use mathlib.Core.Path.{_≡_}
 use lib.ListN.{length}
-use Rattle.dedup.specs.Lists.{filled}
 use Rattle.dedup.specs.Chains.{emptied}
+use Rattle.dedup.proofs.Turns.{turn-less}
+use Rattle.dedup.proofs.Chains.{empty-none, empty-word, empty-count, empty-next, empty-end}
 use Rattle.dedup.proofs.chain.empty_chains.Statement.{statement}
 use Rattle.dedup.proofs.chain.empty_chains.Tie as tie
 
@@ -15,27 +14,25 @@ abbrev μ-loop : tie.MeasureT-loop
 μ-loop to₀ h₀ to h = 256 - h
 
 loop-holds : tie.Need-loop-holds Inv-loop μ-loop
-unfolding filled
-loop-holds c = (omega arith, refl, refl)
+loop-holds c = empty-none _
 
 put-word-requires : tie.Need-put-word-requires Inv-loop μ-loop
-put-word-requires c κs = omega arith
+put-word-requires c κs = empty-word _ _ _ (c .before .before .loop .inv) (c .before .before .before .before .pre) (c .before .loop-test .taken)
 
 add-h : tie.Need-add-h Inv-loop μ-loop
-add-h c = omega arith
+add-h c = empty-count _ _ _ (c .before .before .before .before .before .loop .inv) (c .before .before .before .before .loop-test .taken)
 
 loop-less : tie.Need-loop-less Inv-loop μ-loop
-loop-less c = omega arith
+loop-less c = turn-less (c .before .before .before .before .loop-test .taken)
 
 loop-again : tie.Need-loop-again Inv-loop μ-loop
-unfolding filled
-loop-again c = (omega arith, omega arith, rw add-one (cc))
+loop-again c = empty-next _ _ _ (c .before .before .before .before .before .loop .inv) (c .before .before .before .before .loop-test .taken) _ (c .before .before .put-word .kept .0) (c .before .before .put-word .ensures)
 
 same-length : tie.Need-same-length Inv-loop μ-loop
-same-length c = omega arith
+same-length c = c .before .loop .inv .1
 
 returns : tie.Need-returns Inv-loop μ-loop
-returns c = let e : c .before .loop .h ≡ 256 = omega arith in cc
+returns c = empty-end _ _ _ (c .before .loop .inv) (c .loop-test .left)
 
 pub empty-chains-spec : {M : Type 1} → statement M
 empty-chains-spec =

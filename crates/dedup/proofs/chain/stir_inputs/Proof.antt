@@ -1,11 +1,10 @@
-use Prim.Native.Nat.{ℕ, _≤_, _<_, _-_, _+_}
+use Prim.Native.Nat.{ℕ, _≤_, _<_, _-_}
 use mathlib.Core.Path.{_≡_}
-use native.Mathlib.Numerals.{add-one}
-use native.Mathlib.Omega.{arith}
 use Rattle.tables.specs.Layout.{cell}
 use Rattle.dedup.specs.Lists.{listBase}
 use Rattle.dedup.specs.Chains.{stirred}
-use Rattle.dedup.proofs.Chains.{stir-small}
+use Rattle.dedup.proofs.Turns.{turn-less, turn-fits}
+use Rattle.dedup.proofs.Chains.{stir-none, stir-word, stir-next, stir-end}
 use Rattle.dedup.proofs.chain.stir_inputs.Statement.{statement}
 use Rattle.dedup.proofs.chain.stir_inputs.Tie as tie
 
@@ -19,27 +18,25 @@ wide-requires : tie.Need-wide-requires Inv-loop μ-loop
 wide-requires c κs = tt
 
 loop-holds : tie.Need-loop-holds Inv-loop μ-loop
-unfolding stirred
-loop-holds c = (omega arith, omega arith, cc)
+loop-holds c = stir-none _ _ _ (c .before .before .pre) _ (c .before .before .fits .kind .fits) (c .wide .ensures)
 
 word-requires : tie.Need-word-requires Inv-loop μ-loop
-word-requires c κs = omega arith
+word-requires c κs = stir-word _ _ _ (c .before .before .before .before .pre) _ _ (c .before .loop .inv) (c .loop-test .taken)
 
 stir-requires : tie.Need-stir-requires Inv-loop μ-loop
-stir-requires c κs = omega arith
+stir-requires c κs = c .before .before .loop .inv .1
 
 add-j : tie.Need-add-j Inv-loop μ-loop
-add-j c = omega arith
+add-j c = turn-fits (c .before .before .loop-test .taken) (c .before .before .before .before .before .before .pre .1)
 
 loop-less : tie.Need-loop-less Inv-loop μ-loop
-loop-less c = omega arith
+loop-less c = turn-less (c .before .before .loop-test .taken)
 
 loop-again : tie.Need-loop-again Inv-loop μ-loop
-unfolding stirred
-loop-again c = (omega arith, rw (c .stir .ensures) (stir-small _ _), rw add-one (cc))
+loop-again c = stir-next _ _ _ (c .before .before .before .before .before .before .pre) _ _ (c .before .before .before .loop .inv) (c .before .before .loop-test .taken) _ _ (c .before .word .ensures) (c .stir .ensures)
 
 returns : tie.Need-returns Inv-loop μ-loop
-returns c = let e : c .before .loop .j ≡ c .before .before .before .before .args .n = omega arith in cc
+returns c = stir-end _ _ _ (c .before .before .before .before .pre) _ _ (c .before .loop .inv) (c .loop-test .left)
 
 pub stir-inputs-spec : {M : Type 1} → statement M
 stir-inputs-spec =

@@ -1,13 +1,9 @@
-use Prim.Native.Nat.{ℕ, _≤_, _-_, _+_}
+use Prim.Native.Nat.{ℕ, _≤_, _-_, zero-le}
 use mathlib.Core.Path.{_≡_, refl}
-use native.Mathlib.Numerals.{add-one}
-use native.Mathlib.Omega.{arith}
 use lib.ListN.{length}
-use Rattle.model.specs.Signal.{remapOrder}
-use Rattle.tables.specs.Layout.{inputAt}
-use Rattle.dedup.specs.Lists.{trOf}
 use Rattle.dedup.specs.States.{turned}
-use Rattle.dedup.proofs.Areas.{turned-next}
+use Rattle.dedup.proofs.Turns.{turn-less, turn-fits}
+use Rattle.dedup.proofs.Endings.{cells-none, cells-long, cells-room, cells-next, cells-end}
 use Rattle.dedup.proofs.ends.remap_cells.Statement.{statement}
 use Rattle.dedup.proofs.ends.remap_cells.Tie as tie
 
@@ -18,36 +14,31 @@ abbrev μ-loop : tie.MeasureT-loop
 μ-loop to₀ n k₀ to k = n - k
 
 loop-holds : tie.Need-loop-holds Inv-loop μ-loop
-unfolding turned
-loop-holds c = (omega arith, refl, refl)
+loop-holds c = (zero-le, refl, cells-none _)
 
 input-at-requires : tie.Need-input-at-requires Inv-loop μ-loop
-input-at-requires c κs = omega arith
+input-at-requires c κs = cells-room _ _ (c .before .before .before .before .pre) _ _ (c .before .before .loop .inv) (c .before .loop-test .taken)
 
 translate-requires : tie.Need-translate-requires Inv-loop μ-loop
-translate-requires c κs = omega arith
+translate-requires c κs = cells-long _ _ (c .before .before .before .before .before .pre) _ _ (c .before .before .before .loop .inv)
 
 put-input-requires : tie.Need-put-input-requires Inv-loop μ-loop
-put-input-requires c κs = omega arith
+put-input-requires c κs = cells-room _ _ (c .before .before .before .before .before .before .before .pre) _ _ (c .before .before .before .before .before .loop .inv) (c .before .before .before .before .loop-test .taken)
 
 add-k : tie.Need-add-k Inv-loop μ-loop
-add-k c = omega arith
+add-k c = turn-fits (c .before .before .before .before .before .before .before .loop-test .taken) (c .before .before .before .before .before .before .before .before .before .before .pre .1)
 
 loop-less : tie.Need-loop-less Inv-loop μ-loop
-loop-less c = omega arith
+loop-less c = turn-less (c .before .before .before .before .before .before .before .loop-test .taken)
 
 loop-again : tie.Need-loop-again Inv-loop μ-loop
-loop-again c =
-    let a = c .before .before .before .before .before .before .before .before .before .before .args in
-    let z = c .before .before .before .before .before .before .before .before .before .before .pre .0 in
-    let e : c .before .before .before .before .translate .result ≡ remapOrder (trOf (turned (a .to .now) (c .before .before .before .before .before .before .before .before .loop .k))) (inputAt (turned (a .to .now) (c .before .before .before .before .before .before .before .before .loop .k)) (c .before .before .before .before .before .before .before .before .loop .k)) = cc in
-    (omega arith, omega arith, rw add-one (cc (turned-next (a .to .now) z (c .before .before .before .before .before .before .before .before .loop .k) (c .before .before .before .before .translate .result) (omega arith) e)))
+loop-again c = cells-next _ _ (c .before .before .before .before .before .before .before .before .before .before .pre) _ _ (c .before .before .before .before .before .before .before .before .loop .inv) (c .before .before .before .before .before .before .before .loop-test .taken) _ _ _ (c .before .before .before .before .before .input-at .ensures) (c .before .before .before .before .translate .ensures) (c .before .before .put-input .kept .0) (c .before .before .put-input .ensures)
 
 same-length : tie.Need-same-length Inv-loop μ-loop
-same-length c = omega arith
+same-length c = c .before .loop .inv .1
 
 returns : tie.Need-returns Inv-loop μ-loop
-returns c = let e : c .before .loop .k ≡ c .before .before .before .args .n = omega arith in cc
+returns c = cells-end _ _ (c .before .before .before .pre) _ _ (c .before .loop .inv) (c .loop-test .left)
 
 pub remap-cells-spec : {M : Type 1} → statement M
 remap-cells-spec =

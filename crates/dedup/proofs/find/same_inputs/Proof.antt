@@ -1,9 +1,9 @@
-use Prim.Native.Nat.{ℕ, _≤_, _-_, _+_}
-use mathlib.Core.Path.{_≡_, refl}
+use Prim.Native.Nat.{ℕ, _≤_, _-_, zero-le}
+use mathlib.Core.Path.{_≡_, sym, _∙_}
 use mathlib.Core.Bool.{true}
-use native.Mathlib.Omega.{arith}
 use Rattle.dedup.specs.Lists.{sameIns}
-use Rattle.dedup.proofs.Searches.{same-none, same-more, same-differ}
+use Rattle.dedup.proofs.Turns.{turn-up, turn-less}
+use Rattle.dedup.proofs.Searches.{same-none, same-more, same-differ, same-word, same-place, same-input, same-count, same-end}
 use Rattle.dedup.proofs.find.same_inputs.Statement.{statement}
 use Rattle.dedup.proofs.find.same_inputs.Tie as tie
 
@@ -14,31 +14,31 @@ abbrev μ-loop : tie.MeasureT-loop
 μ-loop to first n j₀ j = n - j
 
 loop-holds : tie.Need-loop-holds Inv-loop μ-loop
-loop-holds c = (omega arith, same-none _ _)
+loop-holds c = (zero-le, same-none _ _)
 
 word-requires : tie.Need-word-requires Inv-loop μ-loop
-word-requires c κs = omega arith
+word-requires c κs = same-word (c .before .before .before .args .to .now) _ _ (c .before .before .before .pre) _ (c .loop-test .taken)
 
 add-input-at : tie.Need-add-input-at Inv-loop μ-loop
-add-input-at c = omega arith
+add-input-at c = same-place (c .before .before .before .before .args .to .now) _ _ (c .before .before .before .before .pre) _ (c .before .loop-test .taken)
 
 input-at-requires : tie.Need-input-at-requires Inv-loop μ-loop
-input-at-requires c κs = omega arith
+input-at-requires c κs = same-input (c .before .before .before .before .args .to .now) _ _ (c .before .before .before .before .pre) _ (c .before .loop-test .taken)
 
 returns : tie.Need-returns Inv-loop μ-loop
-returns c = same-differ _ _ _ (c .before .before .before .before .loop .j) (omega arith) (λ e. c .if1 .taken (cc))
+returns c = same-differ _ _ _ _ (c .before .before .before .loop-test .taken) (λ e. c .if1 .taken (c .before .before .word .ensures ∙ e ∙ sym (c .before .input-at .ensures)))
 
 add-j : tie.Need-add-j Inv-loop μ-loop
-add-j c = omega arith
+add-j c = same-count (c .before .before .before .before .before .before .args .to .now) _ _ (c .before .before .before .before .before .before .pre) _ (c .before .before .before .loop-test .taken)
 
 loop-less : tie.Need-loop-less Inv-loop μ-loop
-loop-less c = omega arith
+loop-less c = turn-less (c .before .before .before .loop-test .taken)
 
 loop-again : tie.Need-loop-again Inv-loop μ-loop
-loop-again c = (omega arith, same-more _ _ _ (c .before .before .before .before .loop .inv .1) (cc))
+loop-again c = (turn-up (c .before .before .before .loop-test .taken), same-more _ _ _ (c .before .before .before .before .loop .inv .1) (sym (c .before .before .word .ensures) ∙ c .if1 .left ∙ c .before .input-at .ensures))
 
 returns-2 : tie.Need-returns-2 Inv-loop μ-loop
-returns-2 c = let e : c .before .loop .j ≡ c .before .before .before .args .n = omega arith in cc
+returns-2 c = same-end _ _ _ (c .before .before .before .pre) _ (c .before .loop .inv .0) (c .loop-test .left) (c .before .loop .inv .1)
 
 pub same-inputs-spec : {M : Type 1} → statement M
 same-inputs-spec =

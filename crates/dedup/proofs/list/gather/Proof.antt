@@ -1,11 +1,9 @@
-use Prim.Native.Nat.{ℕ, _≤_, _-_, _+_}
+use Prim.Native.Nat.{ℕ, _≤_, _-_, zero-le}
 use mathlib.Core.Path.{_≡_, refl}
-use native.Mathlib.Numerals.{add-one}
-use native.Mathlib.Omega.{arith}
 use lib.ListN.{length}
-use Rattle.tables.specs.Layout.{inputAt}
-use Rattle.dedup.specs.Lists.{trOf, lookedUp, filled, gathered}
-use Rattle.dedup.proofs.Areas.{gathered-next}
+use Rattle.dedup.specs.Lists.{gathered}
+use Rattle.dedup.proofs.Turns.{turn-less}
+use Rattle.dedup.proofs.Fills.{gather-none, gather-long, gather-place, gather-input, gather-word, gather-count, gather-next, gather-end}
 use Rattle.dedup.proofs.list.gather.Statement.{statement}
 use Rattle.dedup.proofs.list.gather.Tie as tie
 
@@ -16,39 +14,34 @@ abbrev μ-loop : tie.MeasureT-loop
 μ-loop from to₀ first n cell j₀ to j = n - j
 
 loop-holds : tie.Need-loop-holds Inv-loop μ-loop
-unfolding gathered filled
-loop-holds c = (omega arith, refl, refl)
+loop-holds c = (zero-le, refl, gather-none _ _ _ _)
 
 add-input-at : tie.Need-add-input-at Inv-loop μ-loop
-add-input-at c = omega arith
+add-input-at c = gather-place _ _ _ _ _ (c .before .before .before .before .before .pre) _ _ (c .before .before .loop .inv) (c .before .loop-test .taken)
 
 input-at-requires : tie.Need-input-at-requires Inv-loop μ-loop
-input-at-requires c κs = omega arith
+input-at-requires c κs = gather-input _ _ _ _ _ (c .before .before .before .before .before .pre) _ _ (c .before .before .loop .inv) (c .before .loop-test .taken)
 
 looked-up-requires : tie.Need-looked-up-requires Inv-loop μ-loop
-looked-up-requires c κs = omega arith
+looked-up-requires c κs = gather-long _ _ _ _ _ (c .before .before .before .before .before .before .pre) _ _ (c .before .before .before .loop .inv)
 
 put-word-requires : tie.Need-put-word-requires Inv-loop μ-loop
-put-word-requires c κs = omega arith
+put-word-requires c κs = gather-word _ _ _ _ _ (c .before .before .before .before .before .before .before .before .pre) _ _ (c .before .before .before .before .before .loop .inv) (c .before .before .before .before .loop-test .taken)
 
 add-j : tie.Need-add-j Inv-loop μ-loop
-add-j c = omega arith
+add-j c = gather-count _ _ _ _ _ (c .before .before .before .before .before .before .before .before .before .before .before .pre) _ _ (c .before .before .before .before .before .before .before .before .loop .inv) (c .before .before .before .before .before .before .before .loop-test .taken)
 
 loop-less : tie.Need-loop-less Inv-loop μ-loop
-loop-less c = omega arith
+loop-less c = turn-less (c .before .before .before .before .before .before .before .loop-test .taken)
 
 loop-again : tie.Need-loop-again Inv-loop μ-loop
-loop-again c =
-    let a = c .before .before .before .before .before .before .before .before .before .before .before .args in
-    let z = c .before .before .before .before .before .before .before .before .before .before .before .pre .long in
-    let e : c .before .before .before .before .looked-up .result ≡ lookedUp (a .cell) (trOf (gathered (a .from .now) (a .to .now) (a .cell) (a .first) (c .before .before .before .before .before .before .before .before .loop .j))) (inputAt (a .from .now) (a .first + c .before .before .before .before .before .before .before .before .loop .j)) = cc in
-    (omega arith, omega arith, rw add-one (cc (gathered-next (a .from .now) (a .to .now) (a .cell) (a .first) z (c .before .before .before .before .before .before .before .before .loop .j) (c .before .before .before .before .looked-up .result) e)))
+loop-again c = gather-next _ _ _ _ _ (c .before .before .before .before .before .before .before .before .before .before .before .pre) _ _ (c .before .before .before .before .before .before .before .before .loop .inv) (c .before .before .before .before .before .before .before .loop-test .taken) _ _ _ (c .before .before .before .before .before .input-at .ensures) (c .before .before .before .before .looked-up .ensures) (c .before .before .put-word .kept .0) (c .before .before .put-word .ensures)
 
 same-length : tie.Need-same-length Inv-loop μ-loop
-same-length c = omega arith
+same-length c = c .before .loop .inv .1
 
 returns : tie.Need-returns Inv-loop μ-loop
-returns c = let e : c .before .loop .j ≡ c .before .before .before .before .args .n = omega arith in cc
+returns c = gather-end _ _ _ _ _ (c .before .before .before .before .pre) _ _ (c .before .loop .inv) (c .loop-test .left)
 
 pub gather-spec : {M : Type 1} → statement M
 gather-spec =

@@ -1,6 +1,6 @@
 use mathlib.Core.Path.{_≡_, ap, _∙_}
 use Rattle.kinds.specs.Kinds.{kindOf}
-use Rattle.dedup.proofs.Lookups.{asks-normal, asks-settle, node-did}
+use Rattle.dedup.proofs.Lookups.{asks-node, asks-gather, asks-normal, asks-settle, node-did}
 use borrow.Author.Needs.{needs}
 use Rattle.dedup.proofs.node.dedup_node.Statement.{statement}
 use Rattle.dedup.proofs.node.dedup_node.Tie as tie
@@ -33,17 +33,17 @@ pub dedup-node-spec : {M : Type 1} → statement M
 dedup-node-spec =
     tie.close
     (tie.spec
-    (λ c κs. search needs)
-    (λ c κs. search needs)
-    (λ c κs. search needs)
-    (λ c κs. search needs)
-    (λ c κs. search needs)
+    (λ c κs. asks-node _ _ _ _ (c .before .before .pre))
+    (λ c κs. asks-node _ _ _ _ (c .before .before .before .before .pre))
+    (λ c κs. asks-gather _ _ _ _ (c .before .before .before .before .before .pre) _ _ (c .before .before .count-at .ensures) (c .first-at .ensures))
+    (λ c κs. asks-node _ _ _ _ (c .before .before .before .before .before .before .before .before .pre))
+    (λ c κs. tt)
     (λ c. search needs)
     (λ c. search needs)
     (λ c. search needs)
     normalize-requires
-    (λ c κs. search needs)
-    (λ c κs. search needs)
+    (λ c κs. asks-node _ _ _ _ (c .before .before .before .before .before .before .before .before .before .before .before .before .before .before .before .pre))
+    (λ c κs. asks-node _ _ _ _ (c .before .before .before .before .before .before .before .before .before .before .before .before .before .before .before .before .pre))
     settle-requires
     (λ c. search needs)
     returns)

@@ -1,12 +1,11 @@
-use Prim.Native.Nat.{ℕ, _≤_, _-_, _+_}
+use Prim.Native.Nat.{ℕ, _≤_, _-_, zero-le}
 use mathlib.Core.Path.{_≡_, refl}
-use native.Mathlib.Numerals.{add-one}
-use native.Mathlib.Omega.{arith}
 use lib.ListN.{length}
 use Rattle.tables.specs.Layout.{cell}
 use Rattle.tables.specs.Building.{putInputs}
-use Rattle.tables.proofs.Building.{putInputs-next, cell-putInputs}
 use Rattle.dedup.specs.Lists.{listBase}
+use Rattle.dedup.proofs.Turns.{turn-less}
+use Rattle.dedup.proofs.Fills.{append-none, append-word, append-place, append-room, append-count, append-next, append-end}
 use Rattle.dedup.proofs.place.append_inputs.Statement.{statement}
 use Rattle.dedup.proofs.place.append_inputs.Tie as tie
 
@@ -17,36 +16,31 @@ abbrev μ-loop : tie.MeasureT-loop
 μ-loop to₀ at n j₀ to j = n - j
 
 loop-holds : tie.Need-loop-holds Inv-loop μ-loop
-unfolding putInputs
-loop-holds c = (omega arith, refl, refl)
+loop-holds c = (zero-le, refl, append-none _ _)
 
 word-requires : tie.Need-word-requires Inv-loop μ-loop
-word-requires c κs = omega arith
+word-requires c κs = append-word _ _ _ (c .before .before .before .before .pre) _ _ (c .before .before .loop .inv) (c .before .loop-test .taken)
 
 add-put-input : tie.Need-add-put-input Inv-loop μ-loop
-add-put-input c = omega arith
+add-put-input c = append-place _ _ _ (c .before .before .before .before .before .before .pre) _ _ (c .before .before .before .before .loop .inv) (c .before .before .before .loop-test .taken)
 
 put-input-requires : tie.Need-put-input-requires Inv-loop μ-loop
-put-input-requires c κs = omega arith
+put-input-requires c κs = append-room _ _ _ (c .before .before .before .before .before .before .pre) _ _ (c .before .before .before .before .loop .inv) (c .before .before .before .loop-test .taken)
 
 add-j : tie.Need-add-j Inv-loop μ-loop
-add-j c = omega arith
+add-j c = append-count _ _ _ (c .before .before .before .before .before .before .before .before .before .pre) _ _ (c .before .before .before .before .before .before .before .loop .inv) (c .before .before .before .before .before .before .loop-test .taken)
 
 loop-less : tie.Need-loop-less Inv-loop μ-loop
-loop-less c = omega arith
+loop-less c = turn-less (c .before .before .before .before .before .before .loop-test .taken)
 
 loop-again : tie.Need-loop-again Inv-loop μ-loop
-loop-again c =
-    let a = c .before .before .before .before .before .before .before .before .before .args in
-    let t = cell-putInputs (a .to .now) (a .at) (cell (a .to .now) listBase) (c .before .before .before .before .before .before .before .loop .j) listBase (c .before .before .before .before .before .before .before .loop .j) (omega arith) (omega arith) in
-    let e : c .before .before .before .before .word .result ≡ cell (a .to .now) listBase (c .before .before .before .before .before .before .before .loop .j) = cc in
-    (omega arith, omega arith, rw add-one (cc (putInputs-next (a .to .now) (a .at) (cell (a .to .now) listBase) (c .before .before .before .before .before .before .before .loop .j) (c .before .before .before .before .word .result) e)))
+loop-again c = append-next _ _ _ (c .before .before .before .before .before .before .before .before .before .pre) _ _ (c .before .before .before .before .before .before .before .loop .inv) (c .before .before .before .before .before .before .loop-test .taken) _ _ (c .before .before .before .before .word .ensures) (c .before .before .put-input .kept .0) (c .before .before .put-input .ensures)
 
 same-length : tie.Need-same-length Inv-loop μ-loop
-same-length c = omega arith
+same-length c = c .before .loop .inv .1
 
 returns : tie.Need-returns Inv-loop μ-loop
-returns c = let e : c .before .loop .j ≡ c .before .before .before .args .n = omega arith in cc
+returns c = append-end _ _ _ (c .before .before .before .pre) _ _ (c .before .loop .inv) (c .loop-test .left)
 
 pub append-inputs-spec : {M : Type 1} → statement M
 append-inputs-spec =
