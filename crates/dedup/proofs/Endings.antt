@@ -1,5 +1,5 @@
 -- The loops over whole tables: nodes numbered at first; flip-flops' inputs and outputs translated at last.
-use Prim.Native.Nat.{ℕ, zero, suc, _+_, _≤_, _<_}
+use Prim.Native.Nat.{ℕ, _+_, _≤_, _<_}
 use mathlib.Core.Path.{_≡_, refl, ap, _∙_}
 use mathlib.Core.List.{List}
 use native.Mathlib.Omega.{arith}
@@ -12,9 +12,12 @@ use Rattle.model.specs.Signal.{fromVar, remapOrder}
 use Rattle.tables.specs.Layout.{netSize, trBase, inputAt, outputAt, putInput, putOutput, store}
 use Rattle.tables.specs.Building.{putOutputs}
 use Rattle.tables.proofs.Building.{putOutputs-next}
-use Rattle.dedup.specs.Lists.{trOf, filled}
+use Rattle.lookup.specs.Lists.{filled}
+use Rattle.placing.specs.Lists.{trOf}
 use Rattle.dedup.specs.States.{numbered, turned}
-use Rattle.dedup.proofs.Areas.{filled-next, turned-next, trOf-outputs}
+use Rattle.lookup.proofs.Filled.{filled-next}
+use Rattle.placing.proofs.Areas.{trOf-outputs}
+use Rattle.dedup.proofs.Turned.{turned-next}
 
 -- ---- nodes numbered
 

@@ -1,35 +1,36 @@
 -- The last turn: flip-flops' inputs and outputs translated, and the network that then stands in the area.
 use Prim.Native.Nat.{ℕ, zero, suc, _+_, _≤_, _<_}
-use mathlib.Core.Path.{_≡_, refl, sym, ap, ap₂, _∙_, subst}
+use mathlib.Core.Path.{_≡_, sym, ap, _∙_}
 use mathlib.Core.Bool.{Bool, true, false}
-use mathlib.Core.List.{List, [], _∷_, _++_, map}
+use mathlib.Core.List.{List}
 use native.Mathlib.Omega.{arith}
 use native.Mathlib.Nat.{le-refl}
 use native.Mathlib.Decide.{ℕ-discrete, decLt}
 use lib.ListN.{length, getD, length-map}
 use lib.Seq.{ext-getD}
 use Rattle.laws.specs.Lists.{tab}
-use Rattle.laws.proofs.Tabs.{tab-ext, length-tab, getD-tab, map-tab}
+use Rattle.laws.proofs.Tabs.{map-tab}
 use Rattle.laws.proofs.Lists.{getD-map-in}
 use Rattle.model.specs.Signal.{remapOrder}
-use Rattle.model.specs.Gate.{Gate, Net, Valid, noGate, size, isDff, mapGate, remapGate, fanin, isTopoSorted}
+use Rattle.model.specs.Gate.{Gate, Net, noGate, size, isDff, remapGate, fanin, isTopoSorted}
 use Rattle.model.specs.Normal.{Norm}
-use Rattle.model.specs.Network.{Work, remapDff, dedupWith, dedupMap}
-use Rattle.tables.specs.Layout.{netSize, trBase, firstAt, countAt, inputAt, outputAt, gateAt, nodesOf, outputsOf, netOf, cell}
+use Rattle.model.specs.Network.{Work, remapDff, dedupWith}
+use Rattle.tables.specs.Layout.{firstAt, countAt, inputAt, outputAt, gateAt, nodesOf, outputsOf, netOf}
 use Rattle.tables.specs.Building.{Packed, putOutputs}
-use Rattle.tables.specs.Holding.{networkOf, Held, Holds}
+use Rattle.tables.specs.Holding.{networkOf, Held}
 use Rattle.tables.specs.declared.counts.Counts.{Counts}
 use Rattle.tables.proofs.Gates.{gateAt-by, gateAt-same}
-use Rattle.tables.proofs.Building.{length-putOutputs, cell-putOutputs, outputsOf-putOutputs, nodesOf-putOutputs, packed-putOutputs}
+use Rattle.tables.proofs.Building.{length-putOutputs, outputsOf-putOutputs, nodesOf-putOutputs, packed-putOutputs}
 use Rattle.tables.proofs.Holding.{length-nodesOf, getD-nodesOf, fanin-next, size-network, nodes-few, outs-few, holds}
 use Rattle.shape.proofs.Named.{wired-outs}
 use Rattle.shape.proofs.DedupSweep.{upTo, cells, cells-first, cells-cells, gates-behind}
-use Rattle.shape.proofs.Dedup.{remap-all, inv, last, result-inputs, result-nodes, result-outs, map-is, turned-comb, turned-cell, dedup-valid, dedup-sorted}
-use Rattle.dedup.specs.Lists.{trOf, normOf}
-use Rattle.dedup.specs.States.{Stands, workOf, Like, Sweeping, turned, Dedupable, Deduped}
-use Rattle.dedup.specs.declared.Built.{Built}
-use Rattle.dedup.proofs.Areas.{trOf-cell, length-turned, trOf-turned, inputAt-turned, inputAt-turned-past, kindAt-turned, firstAt-turned, countAt-turned, lowAt-turned, highAt-turned, trOf-outputs}
-use Rattle.dedup.proofs.Lookups.{norm-law}
+use Rattle.shape.proofs.Dedup.{remap-all, last, result-inputs, result-nodes, result-outs, map-is, turned-comb, turned-cell, dedup-valid, dedup-sorted}
+use Rattle.placing.specs.Lists.{trOf, normOf}
+use Rattle.dedup.specs.States.{Sweeping, turned, Dedupable, Deduped}
+use Rattle.placing.specs.declared.Built.{Built}
+use Rattle.placing.proofs.Areas.{trOf-cell, trOf-outputs}
+use Rattle.dedup.proofs.Turned.{length-turned, trOf-turned, inputAt-turned, inputAt-turned-past, kindAt-turned, firstAt-turned, countAt-turned, lowAt-turned, highAt-turned}
+use Rattle.placing.proofs.Lookups.{norm-law}
 
 -- the inputs of more nodes are more
 fanin-more : (l : List ℕ) (v w : ℕ) → v ≤ w → fanin (nodesOf l v) ≤ fanin (nodesOf l w)

@@ -1,10 +1,4 @@
-pub mod Turns
-pub mod Areas
-pub mod Fills
+pub mod Turned
 pub mod Endings
-pub mod Searches
-pub mod Chains
-pub mod Standing
-pub mod Lookups
 pub mod Sweeps
 pub mod Finish

@@ -1,39 +1,39 @@
 -- The sweeps over the old nodes: what a turn asks, and what it leaves of the model's state.
-use Prim.Native.Nat.{ℕ, zero, suc, _+_, _≤_, _<_}
+use Prim.Native.Nat.{ℕ, suc, _+_, _≤_, _<_}
 use mathlib.Core.Path.{_≡_, refl, sym, ap, ap₂, _∙_, subst}
 use mathlib.Core.Bool.{Bool, true, false, not, cond, Bool·beq}
-use mathlib.Core.List.{List, [], _∷_, _++_, map}
+use mathlib.Core.List.{List}
 use native.Mathlib.Omega.{arith}
 use native.Mathlib.Nat.{le-antisymm}
 use native.Mathlib.Numerals.{add-one}
-use lib.ListN.{length, getD}
+use lib.ListN.{length}
 use lib.Dec.{eqb}
 use mir.Val.{Fits}
 use mir.Syntax.{w64}
 use Rattle.laws.proofs.Bools.{true-false}
-use Rattle.laws.proofs.Choices.{by-bool}
 use Rattle.kinds.specs.Kinds.{kindOf, isFlipFlop}
-use Rattle.model.specs.Signal.{flip, fromVar, remapOrder}
-use Rattle.model.specs.Gate.{Gate, Net, Valid, noGate, size, isDff, remapGate, shaped, fanin}
+use Rattle.model.specs.Signal.{flip, fromVar}
+use Rattle.model.specs.Gate.{Gate, Net, size, isDff, remapGate, shaped, fanin}
 use Rattle.model.specs.Gate as model
 use Rattle.model.specs.Normal.{Norm, copied, made}
-use Rattle.model.specs.Network.{upd, place, Work, dedupNode}
+use Rattle.model.specs.Network.{place, Work, dedupNode}
 use Rattle.tables.specs.Layout.{netSize, trBase, kindAt, countAt, gateAt, nodesOf, cell}
-use Rattle.tables.specs.Building.{Packed}
-use Rattle.tables.specs.Holding.{networkOf, Held, Holds}
+use Rattle.tables.specs.Holding.{networkOf, Held}
 use Rattle.tables.specs.declared.counts.Counts.{Counts}
 use Rattle.tables.proofs.Building.{nodesOf-none, packed-none}
 use Rattle.tables.proofs.Holding.{length-nodesOf, length-ins, size-network, gate-network, nodes-few}
 use Rattle.shape.proofs.Named.{shaped-at, wired-ins}
-use Rattle.shape.proofs.DedupSweep.{fanin-total, length-total, isD, asked, upTo, upTo-turn, upTo-skip, upTo-over, upTo-start, upTo-trans, due, due-left, count, inputs}
+use Rattle.shape.proofs.DedupSweep.{fanin-total, length-total, isD, asked, upTo, upTo-turn, upTo-skip, upTo-over, upTo-start, upTo-trans, due-left, count, inputs}
 use Rattle.shape.proofs.Dedup.{remap-all}
-use Rattle.dedup.specs.Lists.{trOf, normOf}
-use Rattle.dedup.specs.Chains.{headBase, emptied}
-use Rattle.dedup.specs.States.{Stands, workOf, Room, Asks, Did, askedGate, Like, Sweeping, numbered, Dedupable}
-use Rattle.dedup.specs.declared.Built.{Built}
-use Rattle.dedup.proofs.Areas.{length-filled, cell-filled, cell-filled-other, trOf-numbered}
-use Rattle.dedup.proofs.Chains.{chained-none}
-use Rattle.dedup.proofs.Lookups.{norm-law}
+use Rattle.placing.specs.Lists.{trOf, normOf}
+use Rattle.lookup.specs.Chains.{headBase, emptied}
+use Rattle.placing.specs.States.{workOf, Asks, Did, askedGate}
+use Rattle.dedup.specs.States.{Like, Sweeping, numbered, Dedupable}
+use Rattle.placing.specs.declared.Built.{Built}
+use Rattle.lookup.proofs.Filled.{length-filled, cell-filled, cell-filled-other}
+use Rattle.dedup.proofs.Turned.{trOf-numbered}
+use Rattle.lookup.proofs.Chains.{chained-none}
+use Rattle.placing.proofs.Lookups.{norm-law}
 
 -- the code's test of the two kinds of sweep
 pub beq-turn : (a b : Bool) → not (Bool·beq a b) ≡ false → a ≡ b

@@ -1,25 +1,15 @@
 // network.rs, dedup: equal gates merged, with each gate normalized first or looked up as it is.
 ghost use Rattle.dedup.specs.States.{Dedupable, Deduped};
-use crate::chain::empty_chains;
 use crate::ends::remap_cells;
 use crate::ends::remap_outputs;
 use crate::sweep::number_nodes;
 use crate::sweep::sweep;
+use lookup::chain::empty_chains;
+use placing::Built;
 use tables::counts::Counts;
 
-pub mod chain;
 pub mod ends;
-pub mod find;
-pub mod list;
-pub mod node;
-pub mod place;
 pub mod sweep;
-
-// How many nodes the new network has so far, and how many gate inputs.
-pub struct Built {
-    pub nodes: usize,
-    pub fanin: usize,
-}
 
 // The network in `from`, without its duplicates, into `to`, and the mapping into the table of words there.
 pub fn dedup(from: &[u32], to: &mut [u32], c: Counts, canonical: bool) -> Counts

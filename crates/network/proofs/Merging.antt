@@ -24,7 +24,7 @@ use Rattle.tables.specs.Working.{Answered, Answered2}
 use Rattle.tables.specs.declared.counts.Counts.{Counts}
 use Rattle.tables.proofs.Holding.{size-network, nodes-few}
 use Rattle.write.specs.Writing.{mappingIn, HeldMapped}
-use Rattle.dedup.specs.Lists.{normOf}
+use Rattle.placing.specs.Lists.{normOf}
 use Rattle.dedup.specs.States.{Dedupable, Deduped}
 use Rattle.network.specs.Works.{dedupWork}
 use Rattle.load.proofs.Loading.{refused-is, network-passes, network-is, network-holds, network-held}

@@ -10,7 +10,7 @@ use Rattle.model.specs.Answers.{Outcome, refused, written, inRoom, unless}
 use Rattle.tables.specs.Layout.{span}
 use Rattle.tables.specs.Holding.{Held}
 use Rattle.tables.specs.declared.counts.Counts.{Counts}
-use Rattle.dedup.specs.Lists.{normOf}
+use Rattle.placing.specs.Lists.{normOf}
 
 -- canonical and dedup: by the normalization, and the lengths lent for the image and the mapping
 unfoldable pub dedupWork : Bool → List ℕ → ℕ → ℕ → Outcome

@@ -1,4 +1,4 @@
-use mathlib.Core.Path.{_≡_, refl}
+use mathlib.Core.Path.{refl}
 use native.Mathlib.Omega.{arith}
 use Rattle.tables.proofs.Holding.{nodes-few, outs-few}
 use Rattle.dedup.proofs.Sweeps.{sweep-start, sweep-over}

@@ -2,7 +2,7 @@ use Prim.Native.Nat.{ℕ, _≤_, _-_, zero-le}
 use mathlib.Core.Path.{_≡_, refl}
 use lib.ListN.{length}
 use Rattle.dedup.specs.States.{turned}
-use Rattle.dedup.proofs.Turns.{turn-less, turn-fits}
+use Rattle.lookup.proofs.Turns.{turn-less, turn-fits}
 use Rattle.dedup.proofs.Endings.{cells-none, cells-long, cells-room, cells-next, cells-end}
 use Rattle.dedup.proofs.ends.remap_cells.Statement.{statement}
 use Rattle.dedup.proofs.ends.remap_cells.Tie as tie

@@ -1,0 +1,4 @@
+pub mod Turns
+pub mod Filled
+pub mod Searches
+pub mod Chains

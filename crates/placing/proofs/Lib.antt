@@ -1,0 +1,4 @@
+pub mod Areas
+pub mod Fills
+pub mod Standing
+pub mod Lookups
