@@ -161,6 +161,14 @@ module _ (src l : List ℕ) (v : ℕ) (b : Built) (A : Asks src l v b) where
   pub asks-gather : (f n : ℕ) → n ≡ countAt src v → f ≡ firstAt src v → Gathers src l f n
   asks-gather f n en ef = record { source = A .source; long = A .room .stands .long; ends = rw (en, ef) (A .ends) }
 
+  -- the list begins within an area as long as l
+  pub asks-lent : (m : List ℕ) → length m ≡ length l → listBase ≤ length m
+  asks-lent m e = omega (arith, e, A .room .stands .long)
+
+  -- and is put back
+  pub lent-back : (m ys o : List ℕ) → length m ≡ length l → length ys ≡ length (lent m) → length o ≡ length (back m ys) → length o ≡ length l
+  lent-back m ys o e ey eo = eo ∙ length-back m ys (rw e (A .room .stands .long)) ey ∙ e
+
 module _ (src l : List ℕ) (v : ℕ) (b : Built) (A : Asks src l v b) (c can : Bool) where
   abbrev gate : Gate
   gate = askedGate c (trOf l) (gateAt src v)

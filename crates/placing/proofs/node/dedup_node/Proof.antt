@@ -1,7 +1,7 @@
+use native.Mathlib.Nat.{le-refl}
 use mathlib.Core.Path.{ap, _∙_}
 use Rattle.kinds.specs.Kinds.{kindOf}
-use Rattle.placing.proofs.Lookups.{asks-node, asks-gather, asks-normal, asks-settle, node-did}
-use borrow.Author.Needs.{needs}
+use Rattle.placing.proofs.Lookups.{asks-node, asks-gather, asks-lent, lent-back, asks-normal, asks-settle, node-did}
 use Rattle.placing.proofs.node.dedup_node.Statement.{statement}
 use Rattle.placing.proofs.node.dedup_node.Tie as tie
 
@@ -38,12 +38,12 @@ dedup-node-spec =
     (λ c κs. asks-gather _ _ _ _ (c .before .before .before .before .before .pre) _ _ (c .before .before .count-at .ensures) (c .first-at .ensures))
     (λ c κs. asks-node _ _ _ _ (c .before .before .before .before .before .before .before .before .pre))
     (λ c κs. tt)
-    (λ c. search needs)
-    (λ c. search needs)
-    (λ c. search needs)
+    (λ c. asks-lent _ _ _ _ (c .before .before .before .before .before .before .before .before .before .before .pre) (c .before .before .before .before .gather .last .1 .0) (c .before .before .before .before .gather .kept .1 .0))
+    (λ c. asks-lent _ _ _ _ (c .before .before .before .before .before .before .before .before .before .before .pre) (c .before .before .before .before .gather .last .1 .0) (c .before .before .before .before .gather .kept .1 .0))
+    (λ c. le-refl _)
     normalize-requires
     (λ c κs. asks-node _ _ _ _ (c .before .before .before .before .before .before .before .before .before .before .before .before .before .before .before .pre))
     (λ c κs. asks-node _ _ _ _ (c .before .before .before .before .before .before .before .before .before .before .before .before .before .before .before .before .pre))
     settle-requires
-    (λ c. search needs)
+    (λ c. lent-back _ _ _ _ (c .before .before .before .before .before .before .before .before .before .before .before .before .before .before .before .before .before .before .before .before .pre) (c .before .before .before .before .before .before .before .before .before .before .before .before .before .before .gather .last .1 .0) (c .before .before .before .before .before .before .before .before .normalize .last .1 .0) (c .before .before .settle .last .0) (c .before .before .before .before .before .before .before .before .before .before .before .before .before .before .gather .kept .1 .0) (c .before .before .before .before .before .before .before .before .normalize .kept .1 .0) (c .before .before .settle .kept .0))
     returns)
