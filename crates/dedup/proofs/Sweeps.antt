@@ -203,5 +203,3 @@ sweep-over src l c can b S = record {
   like = subst (λ (y : Work). Like (c .nodes) (workOf l b) y)
       (ap (upTo (normOf can) (networkOf src c) true) (sym (size-network src c)) ∙ sym (upTo-over (normOf can) (networkOf src c))) (S .like);
 }
-
-pub ruleset sweeps = (sweep-asks, sweep-turn, sweep-skip, sweep-start, sweep-over)

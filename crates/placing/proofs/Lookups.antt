@@ -289,5 +289,3 @@ module _ (src l : List ℕ) (v : ℕ) (b : Built) (A : Asks src l v b) (c can : 
           ap₂ withTable t (ap (normalOf r) (drop-back m ys long-m)) ∙ normal-is in
           let w : workOf (back m ys) b ≡ workOf l b = work≡ same-trans (nodesOf-agree l (back m ys) agrees same-long b (A .room .stands) (b .nodes) (omega arith)) in
           record { stands = D .stands; chained = D .chained; work = D .work ∙ ap₂ (λ (x : Norm) (d : Work). dedupNode x v d) nm w }
-
-pub ruleset lookups = (asks-normal, asks-settle, node-did)

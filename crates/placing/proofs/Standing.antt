@@ -16,7 +16,7 @@ use Rattle.laws.proofs.Tabs.{length-tab}
 use Rattle.kinds.specs.Kinds.{codeOf}
 use Rattle.kinds.specs.declared.Kind.{Kind}
 use Rattle.model.specs.Signal.{flip, fromVar}
-use Rattle.model.specs.Gate.{fanin}
+use Rattle.model.specs.Gate.{Gate, fanin}
 use Rattle.model.specs.Network.{upd, findGate, place, Work, dedupNode}
 use Rattle.tables.specs.Layout.{netSize, trBase, firstAt, countAt, inputAt, gateAt, nodesOf, putGate, putTable, cell, store}
 use Rattle.tables.specs.Building.{putInputs, putNode}
@@ -255,6 +255,14 @@ work≡ p q = λ i. record { trans = p i; news = q i }
 
 -- ---- one node settled
 
+-- the node that was found or put has a signal
+module _ {l m : List ℕ} {b : Built} {g : Gate} {p : Spot} (P : Placed l m b g p) where
+  pub placed-fits : Fits w32 (p .node)
+  placed-fits = record { fits = omega (arith, P .small) }
+
+  pub placed-node : p .node < 1073741823
+  placed-node = omega (arith, P .small)
+
 module _ (l : List ℕ) (v : ℕ) (b : Built) (r : Normalization) (S : Settles l v b r) where
   pub settle-room : (k : Kind) (n : ℕ) (t : Bool) → r ≡ Node k n t → Room l b n
   settle-room k n t e = let c : countOf r ≡ n = ap countOf e in rw c at (S .room)
@@ -293,7 +301,3 @@ module _ (l : List ℕ) (v : ℕ) (b : Built) (r : Normalization) (S : Settles l
             (trOf-store m v y (st .long) (S .node) ∙ ap₂ (λ (τ : ℕ → ℕ) (q : ℕ). upd τ v q) (P .trans) signal)
             (nodesOf-agree m (store m trBase v y) a z (p .built) st (p .built .nodes) (omega arith) ∙ P .gates));
       })
-
-pub ruleset places = (room-seeks, place-found, place-new)
-
-pub ruleset settles = (settle-room, settle-copy, settle-node)
