@@ -1,10 +1,10 @@
 -- The turns of the loops of a cycle, with premises as the code meets them: one ruleset answers every need.
 use mathlib.Core.Path.{_≡_, refl, sym, ap, _∙_}
-use Prim.Native.Nat.{ℕ, _+_, _≤_, _<_}
+use Prim.Native.Nat.{ℕ, suc, _+_, _-_, _≤_, _<_}
 use native.Mathlib.Omega.{arith}
 use native.Mathlib.Nat.{le-antisymm}
 use native.Mathlib.Numerals.{add-one}
-use mathlib.Core.Bool.{Bool, true, false, not, _&&_}
+use mathlib.Core.Bool.{Bool, true, false, not, _&&_, _||_}
 use mathlib.Core.List.{List, [], _∷_, _++_}
 use lib.ListN.{length, getD, set, drop, length-set}
 use lib.Dec.{eqb, ltb}
@@ -18,13 +18,14 @@ use Rattle.laws.proofs.Bools.{and-right}
 use Rattle.laws.proofs.Lists.{some-none}
 use Rattle.laws.proofs.Tabs.{length-tab, fill-put, fill-read, fill-skip}
 use Rattle.model.specs.Gate.{fitsKind, fitsCode}
-use Rattle.model.specs.Evaluate.{nextState}
+use Rattle.model.specs.Evaluate.{nextState, truths}
 use Rattle.model.specs.Answers.{laidOver}
-use Rattle.tables.specs.Layout.{kindAt, firstAt, countAt, inputAt, outputAt}
+use Rattle.tables.specs.Layout.{kindAt, firstAt, countAt, inputAt, outputAt, store}
+use Rattle.tables.proofs.Places.{length-store}
 use Rattle.tables.specs.declared.counts.Counts.{Counts}
-use Rattle.values.specs.Values.{valuesEnd, valueAt, dffAt, Reads, Gated}
+use Rattle.values.specs.Values.{valuesBase, valuesEnd, valueAt, dffAt, shownAt, Reads, Gated}
 use Rattle.values.proofs.Turns.{input-is, input-first}
-use Rattle.evaluate.specs.Passes.{forwardTo, outputByte, newState, newByte, cellAbove, Passing, Putting}
+use Rattle.evaluate.specs.Passes.{inputsTo, forwardTo, outputByte, newState, newByte, aboveOne, cellAbove, Passing, Putting}
 use Rattle.evaluate.specs.Cycle.{Ran}
 
 -- ---- a flip-flop's inputs
@@ -58,6 +59,73 @@ some-here g k n h e = go (someBelow g n) refl
     go : (b : Bool) → someBelow g n ≡ b → true ≡ b
     go true q = refl
     go false q = sym e ∙ some-none g n q k h
+
+-- ---- the inputs' values put down, and whether a byte passed is above 1
+
+pub record Taken (ins t₀ t : List ℕ) (a : Bool) (k i : ℕ) : Type 0 where
+  pub few : k ≤ i
+  pub long : length t ≡ length t₀
+  pub is : t ≡ inputsTo ins t₀ k
+  pub above : a ≡ someBelow (aboveOne ins) k
+
+module _ (ins t₀ : List ℕ) where
+  pub taken-none : (i : ℕ) → Taken ins t₀ t₀ false 0 i
+  unfolding inputsTo someBelow
+  taken-none i = record { few = omega arith; long = refl; is = refl; above = refl }
+
+  module _ (t : List ℕ) (a : Bool) (k i : ℕ) (h : Taken ins t₀ t a k i) where
+    pub taken-low : k < i → i ≤ 1024 → k ≤ 2047
+    taken-low l m = omega arith
+
+    pub taken-room : k < i → i ≤ 1024 → valuesEnd ≤ length t₀ → 4672 + (2047 - k) < length t
+    taken-room l m r = rw (h .long) (omega arith)
+
+    pub taken-more : (l : List ℕ) (x : ℕ) → k < i → x ≡ bit (truths ins k) → l ≡ store t valuesBase (2047 - k) x
+        → Taken ins t₀ l (a || ltb 1 (getD ins k 0)) (k + 1) i
+    unfolding inputsTo someBelow
+    taken-more l x m e q = record {
+      few = omega arith;
+      long = rw (q, length-store) (h .long);
+      is = rw (add-one, q, e) (ap (λ (u : List ℕ). store u valuesBase (2047 - k) (bit (truths ins k))) (h .is));
+      above = rw add-one (ap (λ (b : Bool). b || ltb 1 (getD ins k 0)) (h .above));
+    }
+
+    pub taken-all : i ≤ k → t ≡ inputsTo ins t₀ i
+    taken-all m = let e : k ≡ i = le-antisymm (h .few) m in h .is ∙ ap (inputsTo ins t₀) e
+
+    pub taken-above : i ≤ k → a ≡ someBelow (aboveOne ins) i
+    taken-above m = let e : k ≡ i = le-antisymm (h .few) m in h .above ∙ ap (someBelow (aboveOne ins)) e
+
+-- ---- the forward pass
+
+pub record Forwarded (f st t₀ t : List ℕ) (v n : ℕ) : Type 0 where
+  pub few : v ≤ n
+  pub long : length t ≡ length t₀
+  pub is : t ≡ forwardTo f st t₀ v
+
+module _ (f st t₀ : List ℕ) where
+  pub forwarded-none : (n : ℕ) → Forwarded f st t₀ t₀ 0 n
+  unfolding forwardTo
+  forwarded-none n = record { few = omega arith; long = refl; is = refl }
+
+  module _ (t : List ℕ) (v n : ℕ) (h : Forwarded f st t₀ t v n) where
+    pub forwarded-room : v < n → Passing f t₀ st n → 4672 + (v + 1) < length t
+    forwarded-room l p = let r = p .room in let s = p .few in rw (h .long) (omega arith)
+
+    pub forwarded-state : v < n → Passing f t₀ st n → v < length st
+    forwarded-state l p = let s = p .states in omega arith
+
+    pub forwarded-more : (l : List ℕ) (x : ℕ) (b : Bool) → v < n → b ≡ shownAt f t st v → x ≡ bit b → l ≡ store t valuesBase (v + 1) x
+        → Forwarded f st t₀ l (v + 1) n
+    unfolding forwardTo
+    forwarded-more l x b m s e q = record {
+      few = omega arith;
+      long = rw (q, length-store) (h .long);
+      is = rw (add-one, q, e, s) (ap (λ (u : List ℕ). store u valuesBase (v + 1) (bit (shownAt f u st v))) (h .is));
+    }
+
+    pub forwarded-all : n ≤ v → t ≡ forwardTo f st t₀ n
+    forwarded-all m = let e : v ≡ n = le-antisymm (h .few) m in h .is ∙ ap (forwardTo f st t₀) e
 
 -- ---- a buffer filled from the front
 
@@ -163,4 +231,4 @@ pub ran-is : (f t t′ : List ℕ) (c : Counts) (st out st′ out′ : List ℕ)
     → out′ ≡ laidOver (tab (outputByte f t′) (c .outs)) out → st′ ≡ laidOver (tab (newByte f t′ st) (c .nodes)) st → Ran f t c st out st′ out′
 ran-is f t t′ c st out st′ out′ p q r = record { outputs = rw (← p) q; states = rw (← p) r }
 
-pub ruleset turns = (state-is, none-yet, none-cell, none-all, some-cell, filled-none, filled-all, passing-gated, dff-reads, state-stays, state-goes, output-goes, passing-on, putting-on, ran-is)
+pub ruleset turns = (state-is, taken-none, taken-low, taken-room, taken-more, taken-all, taken-above, forwarded-none, forwarded-room, forwarded-state, forwarded-more, forwarded-all, none-yet, none-cell, none-all, some-cell, filled-none, filled-all, passing-gated, dff-reads, state-stays, state-goes, output-goes, passing-on, putting-on, ran-is)
