@@ -13,11 +13,13 @@ use Rattle.model.specs.Gate.{fanin, gatesNamed, wired, isTopoSorted}
 use Rattle.model.specs.Image.{words, soundFrom, endFrom, gatesFrom, netIn, laid}
 use Rattle.model.proofs.Bytes.{length-words}
 use Rattle.shape.proofs.Walks.{length-gates}
-use Rattle.image.specs.Reader.{laidFrom, reachFrom, wiringFrom, bodyNumber}
-use Rattle.image.specs.declared.records.Laid.{Laid}
-use Rattle.image.specs.declared.records.Laid.the-variants.{Broken, Inputs}
-use Rattle.image.specs.declared.signals.Wiring.{Wiring}
-use Rattle.image.proofs.Reaches.{all-named, gates-named, gates-sorted}
+use Rattle.records.specs.Layouts.{laidFrom}
+use Rattle.wiring.specs.Reach.{reachFrom, wiringFrom}
+use Rattle.image.specs.Reader.{bodyNumber}
+use Rattle.records.specs.declared.Laid.{Laid}
+use Rattle.records.specs.declared.Laid.the-variants.{Broken, Inputs}
+use Rattle.wiring.specs.declared.Wiring.{Wiring}
+use Rattle.wiring.proofs.Reaches.{all-named, gates-named, gates-sorted}
 
 -- ---- what an answer of `layout` says of the test that it came from
 

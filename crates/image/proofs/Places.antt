@@ -15,12 +15,13 @@ use Rattle.model.proofs.Bytes.{length-words}
 use Rattle.shape.proofs.Accepted.{accepted}
 use Rattle.shape.proofs.Back.{length-wordsOf}
 use Rattle.shape.proofs.Records.{record-part, record-at, record-length, record-ends, record-inside}
-use Rattle.image.specs.Reader.{sizeOf, frameOf, answer, checkedOf, placeOf}
+use Rattle.records.specs.Layouts.{sizeOf}
+use Rattle.image.specs.Reader.{frameOf, answer, checkedOf, placeOf}
 use Rattle.image.specs.declared.Frame.{Frame}
 use Rattle.image.specs.declared.Checked.{Checked}
 use Rattle.image.specs.declared.Checked.the-variants.{Refused, Sound}
 use Rattle.image.specs.declared.Place.{Place}
-use Rattle.image.proofs.Fits.{size-is}
+use Rattle.records.proofs.Fits.{size-is}
 
 -- ---- what an answer of `check` says
 

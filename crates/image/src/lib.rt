@@ -5,9 +5,6 @@ ghost use Rattle.model.specs.Image.{words, recordOf, recordAtOf};
 ghost use Rattle.image.specs.Reader.{bodyNumber, framedOf, numberedOf, checkedOf, sortedCheckedOf, placeOf};
 use records::Laid;
 
-pub mod records;
-pub mod signals;
-
 // Where the body starts, and the trailer's counts.
 pub struct Frame {
     pub start: usize,
@@ -77,8 +74,8 @@ fn check_body(body: &[u8], inputs: u32, nodes: u32, outs: u32, strict: bool) -> 
             if 2048 < t {
                 return 5;
             }
-            let gates = signals::of_records(body, inputs, nodes);
-            let outputs = signals::reach(body, lim, count, inputs);
+            let gates = wiring::of_records(body, inputs, nodes);
+            let outputs = wiring::reach(body, lim, count, inputs);
             if !(gates.named & (outputs <= nodes)) {
                 return 6;
             }
