@@ -16,10 +16,9 @@ use Rattle.model.specs.Signal.{fromVar}
 use Rattle.pairs.specs.Lists.{Laid, areaSize, front, leftAt, listAt, listsOf, pairAt, putLeft, putList, putPair, putSig, setList, sigAt, startAt}
 use Rattle.pairs.specs.States.{Ready, stateOf}
 use Rattle.laws.proofs.Tabs.{getD-tab, length-tab, tab-append, tab-ext}
-use Rattle.pairs.proofs.Gates.{getD-lists, laid-setList, leftAt-setList-other, listAt-setList, listAt-setList-other, startAt-setList}
+use Rattle.pairs.proofs.Gates.{front-suc, getD-lists, laid-setList, leftAt-setList-other, length-front, listAt-setList, listAt-setList-other, startAt-setList}
 use Rattle.pairs.proofs.Places.{leftAt-putPair, leftAt-putPair-other, length-putList, length-putPair, putList-append, putPair-putSig, sigAt-putList-after, sigAt-putPair, startAt-putPair, startAt-putPair-other}
 use Rattle.pairs.proofs.Stated.{laid-putPair, lists-putPair, pair≡, state≡}
-use Rattle.pairs.proofs.Taking.{front-suc, length-front}
 
 -- ---- rounds of an even list, and two more
 

@@ -16,7 +16,7 @@ use Rattle.factoring.specs.Turned.{Went, binaryAt, fitted}
 use Rattle.laws.specs.Lists.{tab}
 use Rattle.model.specs.Sharing.{State, Top, allPairs, binaries, consumeBinaryGates, findBestPair, onTwo, replacePair}
 use Rattle.pairs.specs.Lists.{Laid, front, leftAt, listAt, listsOf, sigAt, startAt}
-use Rattle.pairs.specs.Search.{bestOf}
+use Rattle.best_pair.specs.Search.{bestOf}
 use Rattle.pairs.specs.States.{Placed, Ready, Replaced, stateOf}
 use Rattle.laws.proofs.Choices.{by-bool}
 use Rattle.laws.proofs.Tabs.{getD-tab, length-tab}
@@ -24,8 +24,8 @@ use Rattle.pairs.proofs.Gates.{length-list}
 use Rattle.shape.proofs.FactoringFuel.{allPairs-none, allPairs-some, built-allPairs}
 use Rattle.factoring.specs.declared.greedy.Built.{Built}
 use Rattle.factoring.specs.declared.greedy.Built.the-variants.{To, Full}
-use Rattle.pairs.specs.declared.best.Best.{Best}
-use Rattle.pairs.specs.declared.best.Best.the-variants.{Found, None}
+use Rattle.best_pair.specs.declared.Best.{Best}
+use Rattle.best_pair.specs.declared.Best.the-variants.{Found, None}
 
 pub length-built : (l : List ℕ) (g n k : ℕ) → length (stateOf l g n k .built) ≡ k
 unfolding stateOf

@@ -4,12 +4,12 @@ ghost use Prim.Native.Nat.{ℕ, _+_, _<_, min, max};
 ghost use Rattle.model.specs.Sharing.{binaries, consumeBinaryGates, allPairs};
 ghost use Rattle.pairs.specs.States.{stateOf, Ready, Replaced};
 ghost use Rattle.factoring.specs.Turned.{binaryAt, Went};
-use pairs::best::Best;
-use pairs::best::find_best_pair;
+use best_pair::Best;
+use best_pair::find_best_pair;
 use pairs::lists::left_at;
 use pairs::lists::sig_at;
 use pairs::lists::start_at;
-use pairs::replace::replace_pair;
+use replacing::replace_pair;
 
 // How many new nodes there are, or that there is no room for them.
 pub enum Built {

@@ -1,5 +1,3 @@
 -- What the contracts of `pairs` cite.
 pub mod Lists
-pub mod Search
-pub mod Words
 pub mod States

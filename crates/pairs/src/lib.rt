@@ -1,4 +1,2 @@
-// Lists of signals held in a lent area of words: the best pair of a pass, and its replacement.
-pub mod best;
+// Lists of signals held in a lent area of words.
 pub mod lists;
-pub mod replace;

@@ -1,0 +1,2 @@
+-- What the contracts of `best_pair` cite.
+pub mod Search

@@ -1,0 +1,14 @@
+use borrow.Author.Needs.{needs}
+use Rattle.replacing.proofs.Taking.{ones}
+use Rattle.replacing.proofs.keep_one.Statement.{statement}
+use Rattle.replacing.proofs.keep_one.Tie as tie
+
+pub keep-one-spec : {M : Type 1} → statement M
+keep-one-spec =
+    tie.close
+    (tie.spec
+    (λ c. search (needs, ones))
+    (λ c. search (needs, ones))
+    (λ c κs. search (needs, ones))
+    (λ c. search (needs, ones))
+    (λ c. search (needs, ones)))
