@@ -1,4 +1,4 @@
--- The search for the best pair. `Top` and `Best` of src/best.rt.
+-- The search for the best pair. `Top` and `Best` of src/lib.rt.
 use Prim.Native.Nat.{suc, ℕ}
 use mathlib.Core.Bool.{cond}
 use mathlib.Core.List.{List}

@@ -1,5 +1,2 @@
 -- What belongs to no one function.
-pub mod Rooms
-pub mod Growings
-pub mod Wholes
 pub mod Passings

@@ -7,7 +7,7 @@ use native.Mathlib.Omega.{arith}
 use native.Mathlib.Nat.{add-zero}
 use lib.ListN.{getD, length}
 use borrow.Author.Tests.{lt-leb}
-use Rattle.factor_gates.specs.Growing.{Ended, Grows}
+use Rattle.growth.specs.Growing.{Ended, Grows}
 use Rattle.factor_gates.specs.Passing.{Asked, Finished, Halfway, Loaded, Passed}
 use Rattle.factoring.specs.Turned.{Went, fitted}
 use Rattle.laws.specs.Lists.{tab}
@@ -18,7 +18,7 @@ use Rattle.shape.specs.Room.{roomOf}
 use Rattle.tables.specs.Holding.{networkOf}
 use Rattle.tables.specs.Layout.{netOf, nodesOf}
 use Rattle.uses.specs.Loading.{Between, Givable, GivenBack, Loadable, Marked, SameLists, Separated, Source, listsIn}
-use Rattle.factor_gates.proofs.Wholes.{ended-fits, ended-is, nodes-are, source-of}
+use Rattle.growth.proofs.Wholes.{ended-fits, ended-is, nodes-are, source-of}
 use Rattle.factoring.proofs.Rounds.{built-gates}
 use Rattle.factoring.proofs.Turns.{placed-here, placed-on, ready-next, went-full, went-le, went-over, went-placed, went-state}
 use Rattle.laws.proofs.Lists.{getD-map-in}

@@ -5,7 +5,7 @@ use mathlib.Core.Bool.{cond}
 use mathlib.Core.List.{List, []}
 use lib.ListN.{length}
 use lib.Dec.{eqb}
-use Rattle.factor_gates.specs.Growing.{countsOf}
+use Rattle.growth.specs.Growing.{countsOf}
 use Rattle.factoring.specs.Turned.{fitted}
 use Rattle.model.specs.Gate.{Net}
 use Rattle.model.specs.Sharing.{allPairs, consumeBinaryGates, factoring, grown, passRefusal, sharedSignals}

@@ -1,4 +1,2 @@
 // share_logic.rs, factor_gates up to the sort: one pass over a network in an area, and the grown network in the other.
-pub mod grow;
 pub mod pass;
-pub mod room;

@@ -8,7 +8,7 @@ use mir.Syntax.{w32}
 use mir.Val.{Fits}
 use lib.ListN.{getD, length}
 use Rattle.copying.specs.Copies.{putCopy}
-use Rattle.flatten.specs.Pushing.{Merges, Pushes, putWords}
+use Rattle.merge_dependencies.specs.Pushing.{Merges, Pushes, putWords}
 use Rattle.flatten.specs.Flattening.{Flattens, Grew, Puts}
 use Rattle.kinds.specs.Kinds.{codeOf, inFamily, kindOf, wideOf}
 use Rattle.kinds.specs.declared.Family.{Family}
@@ -24,10 +24,10 @@ use Rattle.copying.proofs.Copied.{nodesOf-putCopy, packed-putCopy}
 use Rattle.tables.proofs.Building.{nodesOf-putNode, packed-putNode}
 use Rattle.shape.proofs.Written.{gate-eq}
 use Rattle.tables.proofs.Holding.{length-ins}
-use Rattle.flatten.proofs.Openings.{ins-gate, kind-gate}
-use Rattle.flatten.proofs.Words.{behind-fits, behind-is, behind-le, behind-none, behind-over, putWords-inputs, tab-words}
-use Rattle.flatten.specs.declared.merge.Pushed.{Pushed}
-use Rattle.flatten.specs.declared.merge.Pushed.the-variants.{To, Full}
+use Rattle.merge_dependencies.proofs.Openings.{ins-gate, kind-gate}
+use Rattle.merge_dependencies.proofs.Words.{behind-fits, behind-is, behind-le, behind-none, behind-over, putWords-inputs, tab-words}
+use Rattle.merge_dependencies.specs.declared.Pushed.{Pushed}
+use Rattle.merge_dependencies.specs.declared.Pushed.the-variants.{To, Full}
 
 -- ---- the gate that is put
 

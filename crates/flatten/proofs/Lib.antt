@@ -1,6 +1,3 @@
 -- What belongs to no one function.
-pub mod Words
-pub mod Openings
-pub mod Dependencies
 pub mod Gates
 pub mod Wholes

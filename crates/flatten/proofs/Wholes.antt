@@ -11,7 +11,7 @@ use mir.Syntax.{w64}
 use mir.Val.{Fits}
 use lib.ListN.{getD, length}
 use borrow.Author.Tests.{le-ltb, lt-ltb}
-use Rattle.flatten.specs.Pushing.{behind}
+use Rattle.merge_dependencies.specs.Pushing.{behind}
 use Rattle.flatten.specs.Flattening.{Flattens, Grew, Laid, Mergeable, Merged, mergingOf}
 use Rattle.kinds.specs.Kinds.{wideOf}
 use Rattle.kinds.specs.declared.Family.{Family}
@@ -32,12 +32,12 @@ use Rattle.shape.proofs.Flatten.{flatAt, flats-next, inside-comb, merged-inputs
 use Rattle.tables.proofs.Building.{nodesOf-none, nodesOf-putOutputs, outputsOf-putOutputs, packed-none, packed-putOutputs}
 use Rattle.shape.proofs.FactoringGrown.{fanin-append}
 use Rattle.tables.proofs.Holding.{fanin-one, gate-network, getD-nodesOf, holds as held-network, nodes-few, outs-few, size-network}
-use Rattle.flatten.proofs.Dependencies.{merge-same}
-use Rattle.flatten.proofs.Openings.{ins-gate}
-use Rattle.flatten.proofs.Words.{behind-is, behind-le, behind-over}
-use Rattle.flatten.specs.declared.merge.Pushed.{Pushed}
-use Rattle.flatten.specs.declared.merge.Pushed.the-variants.{To}
-use Rattle.flatten.specs.declared.merge.Pushed as pushed
+use Rattle.merge_dependencies.proofs.Dependencies.{merge-same}
+use Rattle.merge_dependencies.proofs.Openings.{ins-gate}
+use Rattle.merge_dependencies.proofs.Words.{behind-is, behind-le, behind-over}
+use Rattle.merge_dependencies.specs.declared.Pushed.{Pushed}
+use Rattle.merge_dependencies.specs.declared.Pushed.the-variants.{To}
+use Rattle.merge_dependencies.specs.declared.Pushed as pushed
 use Rattle.flatten.specs.declared.Merging.{Merging}
 use Rattle.flatten.specs.declared.Merging.the-variants.{Fits as AllFit, Full}
 

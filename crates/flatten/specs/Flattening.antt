@@ -13,8 +13,8 @@ use Rattle.tables.specs.Building.{Packed}
 use Rattle.tables.specs.Holding.{Held, Holds, networkOf}
 use Rattle.tables.specs.Layout.{countAt, firstAt, gateAt, insAt, netSize, nodesOf}
 use Rattle.tables.specs.declared.counts.Counts.{Counts}
-use Rattle.flatten.specs.Pushing.{behind}
-use Rattle.flatten.specs.declared.merge.Pushed.{Pushed}
+use Rattle.merge_dependencies.specs.Pushing.{behind}
+use Rattle.merge_dependencies.specs.declared.Pushed.{Pushed}
 use Rattle.flatten.specs.declared.Merging.{Merging}
 use Rattle.flatten.specs.declared.Merging.the-variants.{Fits, Full}
 

@@ -1,3 +1,2 @@
 -- What the contracts of `flatten` cite.
-pub mod Pushing
 pub mod Flattening

@@ -1,10 +1,8 @@
 // One gate put behind those in `to`: merged if it is an And or a Xor, else as it is.
 ghost use Rattle.model.specs.Sharing.{flatBy, flatGate};
 ghost use Rattle.tables.specs.Layout.{gateAt};
-ghost use Rattle.flatten.specs.Pushing.{Merges};
+ghost use Rattle.merge_dependencies.specs.Pushing.{Merges};
 ghost use Rattle.flatten.specs.Flattening.{Puts, Flattens, Grew};
-use crate::merge::Pushed;
-use crate::merge::merge_dependencies;
 use copying::copy_gate;
 use kinds::Family;
 use kinds::code;
@@ -12,6 +10,8 @@ use kinds::is_and;
 use kinds::is_xor;
 use kinds::kind_of;
 use kinds::wide;
+use merge_dependencies::Pushed;
+use merge_dependencies::merge_dependencies;
 use tables::layout::count_at;
 use tables::layout::kind_at;
 use tables::layout::put_gate;

@@ -21,7 +21,7 @@ use Rattle.tables.specs.declared.counts.Counts.{Counts}
 use Rattle.flatten.specs.Flattening.{Mergeable, Merged}
 use Rattle.flatten.specs.declared.Merging.{Merging}
 use Rattle.flatten.specs.declared.Merging.the-variants.{Fits, Full}
-use Rattle.factor_gates.specs.Growing.{countsOf}
+use Rattle.growth.specs.Growing.{countsOf}
 use Rattle.factor_gates.specs.Passing.{Asked, Passed, passOf}
 use Rattle.factor_gates.specs.declared.pass.Pass.{Pass}
 use Rattle.factor_gates.specs.declared.pass.Pass.the-variants.{Grown, Pairs, Room}

@@ -20,7 +20,7 @@ use Rattle.topo_sort.specs.Sorts.{Sortable, Sorted, sortingOf}
 use Rattle.topo_sort.specs.declared.Sorting.{Sorting}
 use Rattle.topo_sort.specs.declared.Sorting.the-variants.{Looped, Ordered}
 use Rattle.dedup.specs.States.{Dedupable, Deduped}
-use Rattle.factor_gates.specs.Growing.{countsOf}
+use Rattle.growth.specs.Growing.{countsOf}
 use Rattle.share_logic.specs.Stages.{Workable, Orderable, Left, Staged, stageOf, firstMet}
 use Rattle.share_logic.specs.declared.stage.Stage.{Stage}
 use Rattle.share_logic.specs.declared.stage.Stage.the-variants.{Refused, Network}

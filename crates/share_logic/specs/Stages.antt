@@ -10,7 +10,7 @@ use Rattle.model.specs.Network.{sorts}
 use Rattle.model.specs.Sharing.{flattenedInputs, flattenNary, factorRefusal}
 use Rattle.tables.specs.Holding.{networkOf, Held, Holds}
 use Rattle.tables.specs.declared.counts.Counts.{Counts}
-use Rattle.factor_gates.specs.Growing.{countsOf}
+use Rattle.growth.specs.Growing.{countsOf}
 use Rattle.share_logic.specs.declared.stage.Stage.{Stage}
 use Rattle.share_logic.specs.declared.stage.Stage.the-variants.{Refused, Network}
 

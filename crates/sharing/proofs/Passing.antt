@@ -25,7 +25,7 @@ use Rattle.load.specs.declared.Loaded.the-variants as loaded
 use Rattle.load.proofs.Loading.{refused-is, network-passes, network-holds, network-held, network-is}
 use Rattle.repeats.specs.Reading.{Nodes}
 use Rattle.repeats.proofs.Searched.{held-nodes}
-use Rattle.factor_gates.specs.Growing.{countsOf}
+use Rattle.growth.specs.Growing.{countsOf}
 use Rattle.share_logic.specs.Stages.{Workable, Left, Staged, stageOf, firstMet, flatRefusal, shareRefusal}
 use Rattle.share_logic.specs.declared.stage.Stage.{Stage}
 use Rattle.share_logic.specs.declared.stage.Stage.the-variants.{Refused, Network}

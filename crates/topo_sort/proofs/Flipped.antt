@@ -19,7 +19,8 @@ use Rattle.tables.proofs.Holding.{size-network}
 use Rattle.remap.specs.Tables.{Sound, orderFrom}
 use Rattle.remap.specs.Remapping.{Orders, Remapped}
 use Rattle.remap.proofs.Tabled.{orderFrom-same, length-orderFrom, isD-at, held-sound}
-use Rattle.topo_sort.specs.Sorts.{Sortable, Flips, sortingOf, Ordering, Sorted}
+use Rattle.stack_search.specs.Searching.{Flips}
+use Rattle.topo_sort.specs.Sorts.{Sortable, sortingOf, Ordering, Sorted}
 use Rattle.topo_sort.specs.declared.Sorting.{Sorting}
 use Rattle.topo_sort.specs.declared.Sorting.the-variants.{Ordered, Looped}
 

@@ -1,31 +1,18 @@
 -- What topo_sort asks, and that it leaves the model's order, network and mapping, or answers a loop.
 use mathlib.Core.Path.{_≡_}
 use mathlib.Core.Bool.{Bool, true, false}
-use Prim.Native.Nat.{ℕ, _-_, _<_, _≤_}
-use mathlib.Core.List.{List, _++_}
+use Prim.Native.Nat.{ℕ, _<_, _≤_}
+use mathlib.Core.List.{List}
 use lib.ListN.{length}
 use Rattle.model.specs.Gate.{size}
-use Rattle.model.specs.Network.{isD, rising, translation, topoOrder, sorts, topoSort}
+use Rattle.model.specs.Network.{translation, topoOrder, sorts, topoSort}
 use Rattle.tables.specs.Layout.{span, cell, trBase}
-use Rattle.tables.specs.Holding.{networkOf, Held, Holds}
+use Rattle.tables.specs.Holding.{networkOf, Holds}
 use Rattle.tables.specs.declared.counts.Counts.{Counts}
-use Rattle.remap.specs.Tables.{Sound, orderFrom}
+pub use Rattle.count_deps.specs.Counting.{Sortable}
+use Rattle.remap.specs.Tables.{orderFrom}
 use Rattle.topo_sort.specs.declared.Sorting.{Sorting}
 use Rattle.topo_sort.specs.declared.Sorting.the-variants.{Ordered, Looped}
-
--- a network in `from`, and an area to work in
-pub record Sortable (from l : List ℕ) (c : Counts) : Type 0 where
-  pub held : Held from c
-  pub room : span ≤ length l
-
--- the order's words from pos on; the flip-flops below i are still to come
-pub record Flips (from l : List ℕ) (c : Counts) (i pos : ℕ) : Type 0 where
-  pub ok : Sound from c
-  pub room : span ≤ length l
-  pub whole : topoOrder (networkOf from c) ≡ rising (isD (networkOf from c)) i ++ orderFrom l pos (c .nodes - pos)
-  pub fits : length (rising (isD (networkOf from c)) i) ≤ pos
-  pub top : pos ≤ c .nodes
-  pub low : i ≤ c .nodes
 
 -- 8 where the order is not full
 abbrev pub sortingOf : Bool → Sorting

@@ -1,16 +1,14 @@
 // network.rs, topo_sort: `from` is read, `to` is written, and has the order, the mapping, counts, marks and the stack in the tables
 // behind its network.
 ghost use Rattle.topo_sort.specs.Sorts.{Sortable, Ordering, Sorted};
-use crate::count::count_deps;
 use crate::order::put_flip_flops;
-use crate::search::start;
-use crate::search::visit_all;
+use count_deps::count_deps;
 use remap::remap;
+use stack_search::start;
+use stack_search::visit_all;
 use tables::counts::Counts;
 
-pub mod count;
 pub mod order;
-pub mod search;
 
 // Whether there is an order: not where there is a combinational loop.
 pub enum Sorting {

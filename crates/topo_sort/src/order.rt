@@ -1,6 +1,6 @@
 // Flip-flops, put before what the search has ordered.
 ghost use Prim.Native.Nat.{_+_};
-ghost use Rattle.topo_sort.specs.Sorts.{Flips};
+ghost use Rattle.stack_search.specs.Searching.{Flips};
 use kinds::is_flip_flop_code;
 use tables::counts::Counts;
 use tables::layout::kind_at;

@@ -1,7 +1,7 @@
 use borrow.Author.Needs.{needs}
 use mathlib.Core.Path.{_≡_}
 use lib.ListN.{length}
-use Rattle.topo_sort.specs.Sorts.{Flips}
+use Rattle.stack_search.specs.Searching.{Flips}
 use Rattle.topo_sort.proofs.Flipped.{flips}
 use Rattle.topo_sort.proofs.order.put_flip_flops.Statement.{statement}
 use Rattle.topo_sort.proofs.order.put_flip_flops.Tie as tie

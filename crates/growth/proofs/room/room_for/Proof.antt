@@ -1,0 +1,14 @@
+use borrow.Author.Needs.{needs}
+use Rattle.growth.proofs.Rooms.{rooms}
+use Rattle.growth.proofs.room.room_for.Statement.{statement}
+use Rattle.growth.proofs.room.room_for.Tie as tie
+
+pub room-for-spec : {M : Type 1} → statement M
+room-for-spec =
+    tie.close
+    (tie.spec
+    (λ c κs. search (needs, rooms))
+    (λ c. search (needs, rooms))
+    (λ c. search (needs, rooms))
+    (λ c. search (needs, rooms))
+    (λ c. search (needs, rooms)))

@@ -1,0 +1,2 @@
+-- What the contracts of `merge_dependencies` cite.
+pub mod Pushing
