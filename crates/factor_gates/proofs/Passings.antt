@@ -8,7 +8,7 @@ use native.Mathlib.Nat.{add-zero}
 use lib.ListN.{getD, length}
 use borrow.Author.Tests.{lt-leb}
 use Rattle.growth.specs.Growing.{Ended, Grows}
-use Rattle.factor_gates.specs.Passing.{Asked, Finished, Halfway, Loaded, Passed}
+use Rattle.factor_gates.specs.Passing.{Asked, Finished, Halfway, Loaded, Passed, Sharable}
 use Rattle.factoring.specs.Turned.{Went, fitted}
 use Rattle.laws.specs.Lists.{tab}
 use Rattle.model.specs.Sharing.{allPairs, consumeBinaryGates, exclusiveSignals, factoring, giveBack, joinGates, once, pairPlaces, passRefusal, placesOf, retain, sharedSignals}
@@ -175,65 +175,77 @@ module _ (f : Family) (from l : List ℕ) (c : Counts) (A : Asked from l c) wher
   pub pass-between : Between from l (c .nodes)
   pass-between = record { source = source-of from c (A .held); long = A .long }
 
+  pub pass-loadable : (m : List ℕ) → Marked (listsIn f from (c .nodes)) l m → Loadable (listsIn f from (c .nodes)) from m (c .nodes)
+  pass-loadable m M = record { between = between-same from l m (c .nodes) pass-between (M .same .long); counted = M .counted }
+
+  pub pass-sharable : (o : List ℕ) (g : ℕ) → length o ≡ length l → Separated (listsIn f from (c .nodes)) o g → Sharable f from o c g
+  pass-sharable o g len S = record { held = A .held; between = between-same from l o (c .nodes) pass-between len; lists = S }
+
+pub ruleset loads = (pass-between, pass-loadable, pass-sharable)
+
+module _ (f : Family) (from o : List ℕ) (c : Counts) (g : ℕ) (S : Sharable f from o c g) where
+  places-here : (t : ℕ) → t ≡ placesOf (listsOf o g) → t ≡ pairPlaces f (networkOf from c)
+  places-here t e = e ∙ ap placesOf (S .lists .lists) ∙ sym (places-is f from c)
+
+  pub pass-laid : Laid o g
+  pass-laid = S .lists .laid
+
+  pub pass-pairs : (t : ℕ) → t ≡ placesOf (listsOf o g) → 4096 < t → Passed f (networkOf from c) o Pairs
+  pass-pairs t e h =
+      let N = networkOf from c in
+      let q : passRefusal f N ≡ 11 = refusal-pairs f N (S .held .valid .nodes-few) (S .held .valid .ins-few) (omega (arith, places-here t e)) in
+      record { answer = rw q; holds = λ z. absurd (omega arith) }
+
   pub pass-source : Source from (c .nodes)
-  pass-source = source-of from c (A .held)
+  pass-source = S .between .source
 
-  module _ (m : List ℕ) (M : Marked (listsIn f from (c .nodes)) l m) where
-    pub pass-loadable : Loadable (listsIn f from (c .nodes)) from m (c .nodes)
-    pass-loadable = record { between = between-same from l m (c .nodes) pass-between (M .same .long); counted = M .counted }
+  module _ (room : ℕ) (er : room ≡ roomOf f (nodesOf from (c .nodes))) where
+    pub pass-loaded : Loaded (listsIn f from (c .nodes)) from o g (c .nodes) room
+    unfolding roomOf
+    pass-loaded = record {
+      between = S .between;
+      lists = S .lists;
+      old = omega (arith, S .lists .gates, lists-few f from (c .nodes));
+      nodes = omega (arith, er, length-nodesOf from (c .nodes), nodes-few from c (S .held));
+    }
 
-  module _ (o : List ℕ) (g : ℕ) (S : Separated (listsIn f from (c .nodes)) o g) where
-    places-here : (t : ℕ) → t ≡ placesOf (listsOf o g) → t ≡ pairPlaces f (networkOf from c)
-    places-here t e = e ∙ ap placesOf (S .lists) ∙ sym (places-is f from c)
+    module _ (few : placesOf (listsOf o g) ≤ 4096) (q : List ℕ) (r : Built) (F : Finished (listsIn f from (c .nodes)) q g (c .nodes) room r) where
+      room-is : room ≡ roomOf f (networkOf from c .nodes)
+      room-is = er ∙ ap (roomOf f) (sym (nodes-are from c))
 
-    pub pass-pairs : (t : ℕ) → t ≡ placesOf (listsOf o g) → 4096 < t → Passed f (networkOf from c) o Pairs
-    pass-pairs t e h =
-        let N = networkOf from c in
-        let q : passRefusal f N ≡ 11 = refusal-pairs f N (A .held .valid .nodes-few) (A .held .valid .ins-few) (omega (arith, places-here t e)) in
-        record { answer = rw q; holds = λ z. absurd (omega arith) }
+      places-few : pairPlaces f (networkOf from c) ≤ 4096
+      places-few = omega (arith, places-here (placesOf (listsOf o g)) refl)
 
-    module _ (room : ℕ) (er : room ≡ roomOf f (nodesOf from (c .nodes))) where
-      pub pass-loaded : length o ≡ length l → Loaded (listsIn f from (c .nodes)) from o g (c .nodes) room
-      unfolding roomOf
-      pass-loaded len = record {
-        between = between-same from l o (c .nodes) pass-between len;
-        lists = S;
-        old = omega (arith, S .gates, lists-few f from (c .nodes));
-        nodes = omega (arith, er, length-nodesOf from (c .nodes), nodes-few from c (A .held));
-      }
+      pub pass-room : r ≡ Full → Passed f (networkOf from c) q Room
+      pass-room e =
+          let N = networkOf from c in
+          let b = finished-over (listsIn f from (c .nodes)) q g (c .nodes) room r F e in
+          let d : roomOf f (N .nodes) < length (ended f N .built) = omega (arith, room-is, ap (λ s. length (s .built)) (ended-is f from c)) in
+          let z : passRefusal f N ≡ 12 = refusal-room f N (S .held .valid .nodes-few) (S .held .valid .ins-few) places-few d in
+          record { answer = rw z; holds = λ y. absurd (omega arith) }
 
-      module _ (t : ℕ) (et : t ≡ placesOf (listsOf o g)) (few : t ≤ 4096) (q : List ℕ) (r : Built) (F : Finished (listsIn f from (c .nodes)) q g (c .nodes) room r) where
-        room-is : room ≡ roomOf f (networkOf from c .nodes)
-        room-is = er ∙ ap (roomOf f) (sym (nodes-are from c))
+      module _ (k : ℕ) (e : r ≡ To k) where
+        pub pass-ended : Ended f from q c k
+        pass-ended =
+            let gs = listsIn f from (c .nodes) in
+            record {
+              held = S .held;
+              laid = rw (← (S .lists .gates)) (finished-laid gs q g (c .nodes) room r F k e);
+              fits = rw (← er) (finished-le gs q g (c .nodes) room r F k e);
+              state = rw (← (S .lists .gates)) (finished-state gs q g (c .nodes) room r F k e);
+            }
 
-        places-few : pairPlaces f (networkOf from c) ≤ 4096
-        places-few = omega (arith, places-here t et)
-
-        pub pass-room : r ≡ Full → Passed f (networkOf from c) q Room
-        pass-room e =
+        pub pass-grown : (u : List ℕ) (d : Counts) → Grows f from u c d → Passed f (networkOf from c) u (Grown d)
+        pass-grown u d G =
             let N = networkOf from c in
-            let b = finished-over (listsIn f from (c .nodes)) q g (c .nodes) room r F e in
-            let d : roomOf f (N .nodes) < length (ended f N .built) = omega (arith, room-is, ap (λ s. length (s .built)) (ended-is f from c)) in
-            let z : passRefusal f N ≡ 12 = refusal-room f N (A .held .valid .nodes-few) (A .held .valid .ins-few) places-few d in
-            record { answer = rw z; holds = λ y. absurd (omega arith) }
+            let E = pass-ended in
+            let b : length (ended f N .built) ≤ roomOf f (N .nodes) = ended-fits f from q c k E in
+            let z : passRefusal f N ≡ 0 = refusal-none f N (S .held .valid .nodes-few) (S .held .valid .ins-few) places-few b in
+            record { answer = rw z (ap Grown (G .counts)); holds = λ y. rw (← (G .counts)) (G .holds) }
 
-        module _ (k : ℕ) (e : r ≡ To k) where
-          pub pass-ended : Ended f from q c k
-          pass-ended =
-              let gs = listsIn f from (c .nodes) in
-              record {
-                held = A .held;
-                laid = rw (← (S .gates)) (finished-laid gs q g (c .nodes) room r F k e);
-                fits = rw (← er) (finished-le gs q g (c .nodes) room r F k e);
-                state = rw (← (S .gates)) (finished-state gs q g (c .nodes) room r F k e);
-              }
+pub pass-few : (o : List ℕ) (g t : ℕ) → t ≡ placesOf (listsOf o g) → t ≤ 4096 → placesOf (listsOf o g) ≤ 4096
+pass-few o g t e h = omega arith
 
-          pub pass-grown : (u : List ℕ) (d : Counts) → Grows f from u c d → Passed f (networkOf from c) u (Grown d)
-          pass-grown u d G =
-              let N = networkOf from c in
-              let E = pass-ended in
-              let b : length (ended f N .built) ≤ roomOf f (N .nodes) = ended-fits f from q c k E in
-              let z : passRefusal f N ≡ 0 = refusal-none f N (A .held .valid .nodes-few) (A .held .valid .ins-few) places-few b in
-              record { answer = rw z (ap Grown (G .counts)); holds = λ y. rw (← (G .counts)) (G .holds) }
+pub ruleset passes = (pass-laid, pass-pairs, pass-few)
 
-pub ruleset passes = (pass-between, pass-source, pass-loadable, pass-pairs, pass-loaded, pass-room, pass-ended, pass-grown)
+pub ruleset growths = (pass-source, pass-loaded, pass-room, pass-ended, pass-grown)

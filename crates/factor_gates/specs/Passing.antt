@@ -12,7 +12,7 @@ use Rattle.model.specs.Sharing.{allPairs, consumeBinaryGates, factoring, grown,
 use Rattle.pairs.specs.Lists.{Laid, areaSize, startAt}
 use Rattle.pairs.specs.States.{Ready, stateOf}
 use Rattle.tables.specs.Holding.{Held, Holds}
-use Rattle.uses.specs.Loading.{Between, Separated, slot}
+use Rattle.uses.specs.Loading.{Between, Separated, listsIn, slot}
 use Rattle.factoring.specs.declared.greedy.Built.{Built}
 use Rattle.factor_gates.specs.declared.pass.Pass.{Pass}
 use Rattle.factor_gates.specs.declared.pass.Pass.the-variants.{Grown, Pairs, Room}
@@ -44,6 +44,12 @@ pub record Finished (gs : List (List ℕ)) (m : List ℕ) (g n room : ℕ) (r : 
 pub record Asked (from to : List ℕ) (c : Counts) : Type 0 where
   pub held : Held from c
   pub long : areaSize ≤ length to
+
+-- the lists of the network's gates, without what was set aside
+pub record Sharable (f : Family) (from l : List ℕ) (c : Counts) (g : ℕ) : Type 0 where
+  pub held : Held from c
+  pub between : Between from l (c .nodes)
+  pub lists : Separated (listsIn f from (c .nodes)) l g
 
 -- document 01's number of an answer
 abbrev pub numberOf : Pass → ℕ

@@ -1,11 +1,12 @@
 // Factoring::run over the gates of a network, and the pass with its two refusals.
-ghost use mathlib.Core.Path.{_≡_};
+ghost use Prim.Native.Nat.{_≤_};
+ghost use Rattle.pairs.specs.Lists.{listsOf};
 ghost use Rattle.pairs.specs.States.{stateOf, Ready};
-ghost use Rattle.model.specs.Sharing.{consumeBinaryGates, allPairs};
+ghost use Rattle.model.specs.Sharing.{consumeBinaryGates, allPairs, placesOf};
 ghost use Rattle.tables.specs.Holding.{networkOf};
 ghost use Rattle.uses.specs.Loading.{listsIn};
 ghost use Rattle.factoring.specs.Turned.{Went};
-ghost use Rattle.factor_gates.specs.Passing.{Halfway, Finished, Loaded, Asked, Passed};
+ghost use Rattle.factor_gates.specs.Passing.{Halfway, Finished, Loaded, Asked, Sharable, Passed};
 use factoring::greedy::Built;
 use factoring::greedy::consume_binary_gates;
 use factoring::greedy::consume_pairs;
@@ -68,21 +69,38 @@ fn run(from: &[u32], to: &mut [u32], n: usize, f: Family, g: usize, room: usize)
     }
 }
 
-// One pass over the network in `from`: 11 and 12 exactly where its definition passes the limits, else the grown network in `to`.
-pub fn factor_pass(from: &[u32], to: &mut [u32], counts: Counts, f: Family) -> Pass
+// The lists of the pass, without what is set aside; how many they are.
+fn load_lists(from: &[u32], to: &mut [u32], counts: Counts, f: Family) -> usize
     requires { ⌜ Asked (now from) (now to) counts ⌝ }
-    ensures { λ r. ⌜ Passed f (networkOf (now (from .entry)) counts) (now (to .exit)) r ⌝ }
+    ensures { λ r. ⌜ Sharable f (now (from .entry)) (now (to .exit)) counts r ⌝ }
 {
     let n = counts.nodes;
     count_signal_usage(from, to, n, f);
-    let g = separate_exclusive_signals(from, to, n, f);
-    if 4096 < pair_places(to, g) {
-        return Pass::Pairs;
-    }
+    separate_exclusive_signals(from, to, n, f)
+}
+
+// The lists run, and the grown network where there is room for it: else 12.
+fn grow_shared(from: &[u32], to: &mut [u32], counts: Counts, f: Family, g: usize) -> Pass
+    requires { ⌜ Sharable f (now from) (now to) counts g × (placesOf (listsOf (now to) g) ≤ 4096) ⌝ }
+    ensures { λ r. ⌜ Passed f (networkOf (now (from .entry)) counts) (now (to .exit)) r ⌝ }
+{
+    let n = counts.nodes;
     let room = room_for(from, n, f);
     let r = run(from, to, n, f, g, room);
     let Built::To(k) = r else {
         return Pass::Room;
     };
     Pass::Grown(grow(from, to, counts, f, k))
+}
+
+// One pass over the network in `from`: 11 and 12 exactly where its definition passes the limits, else the grown network in `to`.
+pub fn factor_pass(from: &[u32], to: &mut [u32], counts: Counts, f: Family) -> Pass
+    requires { ⌜ Asked (now from) (now to) counts ⌝ }
+    ensures { λ r. ⌜ Passed f (networkOf (now (from .entry)) counts) (now (to .exit)) r ⌝ }
+{
+    let g = load_lists(from, to, counts, f);
+    if 4096 < pair_places(to, g) {
+        return Pass::Pairs;
+    }
+    grow_shared(from, to, counts, f, g)
 }
