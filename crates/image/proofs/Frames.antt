@@ -1,11 +1,12 @@
 -- Laws of the frame: one for each answer of `frame_of`.
 use mathlib.Core.Path.{_≡_}
-use mathlib.Core.Logic.{_≢_}
 use mathlib.Core.List.{List}
-use mathlib.Core.Bool.{true, and-false}
+use mathlib.Core.Bool.{true, false, not, _&&_, and-false}
 use Prim.Native.Nat.{ℕ, _-_, _%_, _≤_, _<_}
 use lib.ListN.{length}
-use borrow.Author.Tests.{lt-leb, le-leb, eq-eqb, ne-eqb}
+use lib.Dec.{eqb, leb}
+use borrow.Author.Tests.{le-leb, leb-true, lt-leb, not-false, not-true}
+use Rattle.laws.proofs.Bools.{and-right}
 use Rattle.model.specs.Image.{inputsIn, nodesIn, outsIn, spanIn, framed, within}
 use Rattle.image.specs.Reader.{framedOf, frameOf}
 use Rattle.image.specs.declared.Checked.the-variants.{Refused, Sound}
@@ -16,38 +17,31 @@ frame-short img l = simp (lt-leb 16 (length img) l)
 
 -- the span, as it was read
 module _ (img : List ℕ) (d : ℕ) (e : d ≡ spanIn img) where
-  pub frame-small : d < 16 → Refused 2 ≡ framedOf img
+  pub frame-off : not (leb 16 d && (eqb (d % 4) 0 && leb d (length img))) ≡ true → Refused 2 ≡ framedOf img
   unfolding framedOf framed
-  frame-small l = simp (← e, lt-leb 16 d l, and-false)
+  frame-off h = simp (← e, not-true (leb 16 d && (eqb (d % 4) 0 && leb d (length img))) h, and-false)
 
-  pub frame-odd : d % 4 ≢ 0 → Refused 2 ≡ framedOf img
-  unfolding framedOf framed
-  frame-odd l = simp (← e, ne-eqb (d % 4) 0 l, and-false)
+  module _ (h : not (leb 16 d && (eqb (d % 4) 0 && leb d (length img))) ≡ false) where
+    test : (leb 16 d && (eqb (d % 4) 0 && leb d (length img))) ≡ true
+    test = not-false (leb 16 d && (eqb (d % 4) 0 && leb d (length img))) h
 
-  pub frame-past : length img < d → Refused 2 ≡ framedOf img
-  unfolding framedOf framed
-  frame-past l = simp (← e, lt-leb d (length img) l, and-false)
+    pub frame-start : d ≤ length img
+    frame-start =
+        leb-true d (length img)
+        (and-right (eqb (d % 4) 0) (leb d (length img)) (and-right (leb 16 d) (eqb (d % 4) 0 && leb d (length img)) test))
 
-  pub framed-yes : 16 ≤ length img → 16 ≤ d → d % 4 ≡ 0 → d ≤ length img → framed img ≡ true
-  unfolding framed
-  framed-yes a b q l = simp (← e, le-leb 16 (length img) a, le-leb 16 d b, eq-eqb (d % 4) 0 q, le-leb d (length img) l)
+    module _ (l : 16 ≤ length img) (i n o : ℕ) (ei : i ≡ inputsIn img) (en : n ≡ nodesIn img) (eo : o ≡ outsIn img) where
+      framed-yes : framed img ≡ true
+      unfolding framed
+      framed-yes = simp (← e, le-leb 16 (length img) l, test)
 
-  module _ (f : framed img ≡ true) (i n o : ℕ) (ei : i ≡ inputsIn img) (en : n ≡ nodesIn img) (eo : o ≡ outsIn img) where
-    pub frame-inputs : 1024 < i → Refused 3 ≡ framedOf img
-    unfolding framedOf within
-    frame-inputs l = simp (f, ← ei, lt-leb i 1024 l)
+      pub frame-over : not (leb i 1024 && (leb n 512 && leb o 64)) ≡ true → Refused 3 ≡ framedOf img
+      unfolding framedOf within
+      frame-over q = simp (framed-yes, ← ei, ← en, ← eo, not-true (leb i 1024 && (leb n 512 && leb o 64)) q)
 
-    pub frame-nodes : 512 < n → Refused 3 ≡ framedOf img
-    unfolding framedOf within
-    frame-nodes l = simp (f, ← en, lt-leb n 512 l, and-false)
+      pub frame-yes : not (leb i 1024 && (leb n 512 && leb o 64)) ≡ false
+          → Sound (record { start = length img - d; inputs = i; nodes = n; outs = o }) ≡ framedOf img
+      unfolding framedOf within frameOf
+      frame-yes q = simp (framed-yes, not-false (leb i 1024 && (leb n 512 && leb o 64)) q, ← e, ← ei, ← en, ← eo)
 
-    pub frame-outs : 64 < o → Refused 3 ≡ framedOf img
-    unfolding framedOf within
-    frame-outs l = simp (f, ← eo, lt-leb o 64 l, and-false)
-
-    pub frame-yes : i ≤ 1024 → n ≤ 512 → o ≤ 64
-        → Sound (record { start = length img - d; inputs = i; nodes = n; outs = o }) ≡ framedOf img
-    unfolding framedOf within frameOf
-    frame-yes a b l = simp (f, ← e, ← ei, ← en, ← eo, le-leb i 1024 a, le-leb n 512 b, le-leb o 64 l)
-
-pub ruleset frames = (frame-short, frame-small, frame-odd, frame-past, framed-yes, frame-inputs, frame-nodes, frame-outs, frame-yes)
+pub ruleset frames = (frame-short, frame-off, frame-start, frame-over, frame-yes)

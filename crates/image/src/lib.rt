@@ -26,26 +26,14 @@ fn frame_of(img: &[u8]) -> Checked
     if len < 16 {
         return Checked::Refused(2);
     }
+    let span = words::word_at(img, len - 4) as usize;
+    if !((16 <= span) & ((span % 4 == 0) & (span <= len))) {
+        return Checked::Refused(2);
+    }
     let inputs = words::word_at(img, len - 16);
     let nodes = words::word_at(img, len - 12);
     let outs = words::word_at(img, len - 8);
-    let span = words::word_at(img, len - 4) as usize;
-    if span < 16 {
-        return Checked::Refused(2);
-    }
-    if span % 4 != 0 {
-        return Checked::Refused(2);
-    }
-    if len < span {
-        return Checked::Refused(2);
-    }
-    if 1024 < inputs {
-        return Checked::Refused(3);
-    }
-    if 512 < nodes {
-        return Checked::Refused(3);
-    }
-    if 64 < outs {
+    if !((inputs <= 1024) & ((nodes <= 512) & (outs <= 64))) {
         return Checked::Refused(3);
     }
     Checked::Sound(Frame {
