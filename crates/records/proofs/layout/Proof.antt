@@ -20,15 +20,15 @@ layout-spec =
     (tie.spec
     Inv-loop
     μ-loop
+    (λ c. search needs)
+    (λ c κs. search needs)
     (λ c. search (needs, layouts))
     (λ c κs. search (needs, layouts))
+    (λ c. search needs)
+    (λ c. search needs)
     (λ c. search (needs, layouts))
-    (λ c κs. search (needs, layouts))
-    (λ c. search (needs, layouts))
-    (λ c. search (needs, layouts))
-    (λ c. search (needs, layouts))
-    (λ c. search (needs, layouts))
-    (λ c. search (needs, layouts))
+    (λ c. search needs)
+    (λ c. search needs)
     (λ c. search (needs, layouts))
     (λ c. search (needs, layouts))
     (λ c. search (needs, layouts)))

@@ -20,9 +20,9 @@ skip-spec =
     μ-loop
     (λ c. search (needs, walks))
     (λ c κs. search (needs, walks))
-    (λ c κs. search (needs, walks))
+    (λ c κs. search needs)
     (λ c. search (needs, walks))
-    (λ c. search (needs, walks))
-    (λ c. search (needs, walks))
+    (λ c. search needs)
+    (λ c. search needs)
     (λ c. search (needs, walks))
     (λ c. search (needs, walks)))
