@@ -1,21 +1,62 @@
 -- Laws of one record, in the form in which the code meets it: h is the header that it has read.
-use mathlib.Core.Path.{_≡_, sym, _∙_}
+use mathlib.Core.Path.{_≡_, ap, sym, _∙_}
 use mathlib.Core.Logic.{_≢_}
 use mathlib.Core.List.{List}
-use mathlib.Core.Bool.{Bool, true, false, not, and-false}
+use mathlib.Core.Bool.{Bool, true, false, not, _&&_, and-false}
 use Prim.Native.Nat.{ℕ, _+_, _-_, _*_, _/_, _%_, _^_, _≤_, _<_}
 use native.Mathlib.Omega.{arith}
 use native.Mathlib.Nat.{zero-mul, add-zero}
 use lib.ListN.{getD}
-use lib.Dec.{ltb}
+use lib.Dec.{eqb, leb, ltb}
 use lib.Pow.{pow-mono}
 use borrow.Author.Tests.{lt-ltb, le-ltb, lt-leb, le-leb, eq-eqb, ne-eqb, not-true, not-false}
 use Rattle.laws.proofs.Bools.{and-right}
-use Rattle.model.specs.Gate.{fitsCode, fitsTable}
+use Rattle.kinds.specs.Kinds.{kindOf}
+use Rattle.kinds.specs.declared.Kind.{Kind}
+use Rattle.kinds.specs.declared.Kind.the-variants.{And2, And3, Buf, Dff, Lut, Maj, Mux, Xor2, Xor3}
+use Rattle.model.specs.Gate.{fitsCode, fitsKind, fitsTable}
 use Rattle.model.specs.Image.{headerOk, codeAt, countAt, sizeAt, tableAt, soundAt}
 use Rattle.shape.proofs.Shaped.{lut-small}
 use Rattle.shape.proofs.Walks.{size-pos}
 use Rattle.records.specs.Layouts.{sizeOf, fitAt}
+
+-- ---- a header
+
+pub code-fits : (code n : ℕ) (k : Kind) → k ≡ kindOf code → (t : Bool) → t ≡ fitsKind k n → (ltb code 15 && t) ≡ fitsCode code n
+unfolding fitsCode
+code-fits code n k e t q = ap (λ b. ltb code 15 && b) (q ∙ ap (λ (x : Kind). fitsKind x n) e)
+
+pub header-fits : (h : ℕ) (t : Bool) → t ≡ fitsCode (h % 256) (h / 256) → (ltb h 16777216 && t) ≡ headerOk h
+unfolding headerOk
+header-fits h t e = ap (λ b. ltb h 16777216 && b) e
+
+module _ (k : Kind) (n : ℕ) where
+  pub two-and : k ≡ And2 → eqb n 2 ≡ fitsKind k n
+  two-and e = rw e
+
+  pub two-xor : k ≡ Xor2 → eqb n 2 ≡ fitsKind k n
+  two-xor e = rw e
+
+  pub three-and : k ≡ And3 → eqb n 3 ≡ fitsKind k n
+  three-and e = rw e
+
+  pub three-xor : k ≡ Xor3 → eqb n 3 ≡ fitsKind k n
+  three-xor e = rw e
+
+  pub three-maj : k ≡ Maj → eqb n 3 ≡ fitsKind k n
+  three-maj e = rw e
+
+  pub three-mux : k ≡ Mux → eqb n 3 ≡ fitsKind k n
+  three-mux e = rw e
+
+  pub one-buf : k ≡ Buf → eqb n 1 ≡ fitsKind k n
+  one-buf e = rw e
+
+  pub three-dff : k ≡ Dff → eqb n 3 ≡ fitsKind k n
+  three-dff e = rw e
+
+  pub six-lut : k ≡ Lut → leb n 6 ≡ fitsKind k n
+  six-lut e = rw e
 
 -- ---- a Lut's table in two words, by the number of inputs
 

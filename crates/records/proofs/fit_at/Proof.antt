@@ -1,5 +1,5 @@
 use borrow.Author.Needs.{needs}
-use Rattle.records.proofs.Fits.{fits}
+use Rattle.records.proofs.Fits.{fit-header, fit-lut, fit-lut-long, fit-past, fit-plain, fit-plain-long, fit-table, lut-count}
 use Rattle.records.proofs.fit_at.Statement.{statement}
 use Rattle.records.proofs.fit_at.Tie as tie
 
@@ -7,25 +7,25 @@ pub fit-at-spec : {M : Type 1} → statement M
 fit-at-spec =
     tie.close
     (tie.spec
-    (λ c. search (needs, fits))
+    (λ c. search (needs, fit-past))
     (λ c κs. search needs)
     (λ c κs. search needs)
-    (λ c. search (needs, fits))
+    (λ c. search (needs, fit-header))
     (λ c. search needs)
     (λ c. search needs)
-    (λ c. search (needs, fits))
+    (λ c. search (needs, fit-plain-long))
     (λ c. search needs)
-    (λ c. search (needs, fits))
-    (λ c. search needs)
-    (λ c. search needs)
-    (λ c. search (needs, fits))
+    (λ c. search (needs, fit-plain))
     (λ c. search needs)
     (λ c. search needs)
-    (λ c κs. search needs)
+    (λ c. search (needs, fit-lut-long))
     (λ c. search needs)
     (λ c. search needs)
     (λ c κs. search needs)
-    (λ c κs. search (needs, fits))
     (λ c. search needs)
-    (λ c. search (needs, fits))
-    (λ c. search (needs, fits)))
+    (λ c. search needs)
+    (λ c κs. search needs)
+    (λ c κs. search (needs, lut-count))
+    (λ c. search needs)
+    (λ c. search (needs, fit-lut))
+    (λ c. search (needs, fit-table)))

@@ -1,11 +1,10 @@
 use borrow.Author.Needs.{needs}
-use Rattle.model.specs.Gate.{fitsCode}
+use Rattle.records.proofs.Fits.{code-fits}
 use Rattle.records.proofs.fits_code.Statement.{statement}
 use Rattle.records.proofs.fits_code.Tie as tie
 
 returns : tie.Need-returns
-unfolding fitsCode
-returns c = cc
+returns c = code-fits _ _ _ (c .before .kind-of .ensures) _ (c .fits-kind .ensures)
 
 pub fits-code-spec : {M : Type 1} → statement M
 fits-code-spec =

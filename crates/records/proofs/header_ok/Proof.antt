@@ -1,11 +1,10 @@
 use borrow.Author.Needs.{needs}
-use Rattle.model.specs.Image.{headerOk}
+use Rattle.records.proofs.Fits.{header-fits}
 use Rattle.records.proofs.header_ok.Statement.{statement}
 use Rattle.records.proofs.header_ok.Tie as tie
 
 returns : tie.Need-returns
-unfolding headerOk
-returns c = cc
+returns c = header-fits _ _ (c .fits-code .ensures)
 
 pub header-ok-spec : {M : Type 1} → statement M
 header-ok-spec =
