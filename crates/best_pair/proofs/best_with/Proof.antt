@@ -5,7 +5,7 @@ use borrow.Author.Needs.{needs}
 use Rattle.model.specs.Sharing.{topWith}
 use Rattle.pairs.specs.Lists.{listAt, listsOf}
 use Rattle.best_pair.specs.Search.{inTop, topOf}
-use Rattle.best_pair.proofs.Tops.{withs}
+use Rattle.best_pair.proofs.Tops.{sig-fits, sig-room, with-end, with-start, with-step}
 use Rattle.best_pair.proofs.best_with.Statement.{statement}
 use Rattle.best_pair.proofs.best_with.Tie as tie
 
@@ -22,16 +22,16 @@ best-with-spec =
     (tie.spec
     Inv-loop
     μ-loop
-    (λ c κs. search (needs, withs))
-    (λ c κs. search (needs, withs))
-    (λ c. search (needs, withs))
-    (λ c κs. search (needs, withs))
-    (λ c. search (needs, withs))
-    (λ c. search (needs, withs))
-    (λ c. search (needs, withs))
-    (λ c κs. search (needs, withs))
-    (λ c κs. search (needs, withs))
-    (λ c. search (needs, withs))
-    (λ c. search (needs, withs))
-    (λ c. search (needs, withs))
-    (λ c. search (needs, withs)))
+    (λ c κs. search needs)
+    (λ c κs. search needs)
+    (λ c. search (needs, sig-fits))
+    (λ c κs. search (needs, sig-room))
+    (λ c. search needs)
+    (λ c. search (needs, with-start))
+    (λ c. search (needs, sig-fits))
+    (λ c κs. search (needs, sig-room))
+    (λ c κs. search needs)
+    (λ c. search needs)
+    (λ c. search needs)
+    (λ c. search (needs, with-step))
+    (λ c. search (needs, with-end)))

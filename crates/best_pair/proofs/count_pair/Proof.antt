@@ -20,11 +20,11 @@ count-pair-spec =
     (tie.spec
     Inv-loop
     μ-loop
+    (λ c. search needs)
+    (λ c κs. search needs)
+    (λ c κs. search needs)
     (λ c. search (needs, counts))
-    (λ c κs. search (needs, counts))
-    (λ c κs. search (needs, counts))
-    (λ c. search (needs, counts))
-    (λ c. search (needs, counts))
-    (λ c. search (needs, counts))
+    (λ c. search needs)
+    (λ c. search needs)
     (λ c. search (needs, counts))
     (λ c. search (needs, counts)))

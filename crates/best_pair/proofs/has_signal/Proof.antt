@@ -4,7 +4,7 @@ use lib.ListN.{drop}
 use borrow.Author.Needs.{needs}
 use Rattle.model.specs.Network.{has}
 use Rattle.pairs.specs.Lists.{listAt}
-use Rattle.best_pair.proofs.Tops.{hass}
+use Rattle.best_pair.proofs.Tops.{has-end, has-hit, has-miss, sig-fits, sig-room}
 use Rattle.best_pair.proofs.has_signal.Statement.{statement}
 use Rattle.best_pair.proofs.has_signal.Tie as tie
 
@@ -20,13 +20,13 @@ has-signal-spec =
     (tie.spec
     Inv-loop
     μ-loop
-    (λ c κs. search (needs, hass))
-    (λ c κs. search (needs, hass))
-    (λ c. search (needs, hass))
-    (λ c. search (needs, hass))
-    (λ c κs. search (needs, hass))
-    (λ c. search (needs, hass))
-    (λ c. search (needs, hass))
-    (λ c. search (needs, hass))
-    (λ c. search (needs, hass))
-    (λ c. search (needs, hass)))
+    (λ c κs. search needs)
+    (λ c κs. search needs)
+    (λ c. search needs)
+    (λ c. search (needs, sig-fits))
+    (λ c κs. search (needs, sig-room))
+    (λ c. search (needs, has-hit))
+    (λ c. search needs)
+    (λ c. search needs)
+    (λ c. search (needs, has-miss))
+    (λ c. search (needs, has-end)))

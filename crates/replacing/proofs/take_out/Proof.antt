@@ -22,16 +22,16 @@ take-out-spec =
     (tie.spec
     Inv-loop
     μ-loop
-    (λ c κs. search (needs, takeOuts))
-    (λ c κs. search (needs, takeOuts))
+    (λ c κs. search needs)
+    (λ c κs. search needs)
     (λ c. search (needs, takeOuts))
+    (λ c. search needs)
+    (λ c κs. search needs)
+    (λ c. search needs)
+    (λ c κs. search needs)
     (λ c. search (needs, takeOuts))
-    (λ c κs. search (needs, takeOuts))
-    (λ c. search (needs, takeOuts))
-    (λ c κs. search (needs, takeOuts))
-    (λ c. search (needs, takeOuts))
-    (λ c. search (needs, takeOuts))
-    (λ c. search (needs, takeOuts))
+    (λ c. search needs)
+    (λ c. search needs)
     (λ c.
     let k = c .before .before .keep-one in
     let s = c .before .before .before .before .sig-at in
@@ -42,6 +42,6 @@ take-out-spec =
       search needs,
       take-count _ _ _ _ _ _ (p .inv .4) _ (p .inv .5) _ (s .ensures) _ (k .ensures .0),
       take-step _ _ _ _ _ _ (p .inv .4) _ (p .inv .5) _ (s .ensures) _ (k .ensures .1),
-    ))  -- loop-again
-    (λ c. search (needs, takeOuts))
+    ))
+    (λ c. search needs)
     (λ c. search (needs, takeOuts)))
