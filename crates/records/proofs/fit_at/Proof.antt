@@ -3,6 +3,9 @@ use Rattle.records.proofs.Fits.{fit-header, fit-lut, fit-lut-long, fit-
 use Rattle.records.proofs.fit_at.Statement.{statement}
 use Rattle.records.proofs.fit_at.Tie as tie
 
+returns-6 : tie.Need-returns-6
+returns-6 c = search (needs, fit-lut)
+
 pub fit-at-spec : {M : Type 1} → statement M
 fit-at-spec =
     tie.close
@@ -27,5 +30,5 @@ fit-at-spec =
     (λ c κs. search needs)
     (λ c κs. search (needs, lut-count))
     (λ c. search needs)
-    (λ c. search (needs, fit-lut))
+    returns-6
     (λ c. search (needs, fit-table)))
