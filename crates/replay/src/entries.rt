@@ -1,4 +1,4 @@
-// The entries: each has its code, its file's name, its arm of `run`, and its line in the file `stdout`, in the order of the codes.
+// The entries: each has its code, its file's name, its arm or test here, and its line in the file `stdout`, in the order of the codes.
 use crate::buffers::put;
 use crate::buffers::slice;
 use crate::recorded::IMAGE;
@@ -44,21 +44,29 @@ const RECORD: u32 = 9;
 
 pub const CODES: u32 = 10;
 
-// The name of an entry's file, to the front of path; answers its length, 0 for an entry that is not there.
-pub fn file_name(entry: u32, path: &mut [u8]) -> usize {
+// The length of the name of an entry's file, 0 for an entry that is not there.
+fn name_len(entry: u32) -> usize {
     match entry {
-        READ => put(b"read.bin", path),
-        CANONICAL => put(b"canonical.bin", path),
-        DEDUP => put(b"dedup.bin", path),
-        CLEANUP => put(b"cleanup.bin", path),
-        SORT => put(b"sort.bin", path),
-        FLATTEN => put(b"flatten.bin", path),
-        FACTOR => put(b"factor.bin", path),
-        SHARE => put(b"share.bin", path),
-        EVALUATE => put(b"evaluate.bin", path),
-        RECORD => put(b"record.bin", path),
+        READ => 8,
+        SORT => 8,
+        DEDUP => 9,
+        SHARE => 9,
+        FACTOR => 10,
+        RECORD => 10,
+        CLEANUP => 11,
+        FLATTEN => 11,
+        EVALUATE => 12,
+        CANONICAL => 13,
         _ => 0,
     }
+}
+
+// The name of an entry's file, to the front of path; answers its length. All names stand in one text, 16 bytes for each.
+pub fn file_name(entry: u32, path: &mut [u8]) -> usize {
+    let names =
+        b"read.bin        canonical.bin   dedup.bin       cleanup.bin     sort.bin        flatten.bin     factor.bin      share.bin       evaluate.bin    record.bin      ";
+    let at = 16 * (entry as usize);
+    put(slice(names, at, name_len(entry)), path)
 }
 
 // What an entry answered: number and length, and for record where the part begins.
@@ -66,6 +74,61 @@ pub struct Got {
     pub number: u32,
     pub length: usize,
     pub start: usize,
+}
+
+// Reads, or runs an entry of network.rs.
+fn run_network(
+    entry: u32,
+    image: &[u8],
+    out: &mut [u8],
+    map: &mut [u32],
+    a: &mut [u32],
+    b: &mut [u32],
+) -> Answer {
+    match entry {
+        CANONICAL => canonical(image, out, map, a, b),
+        DEDUP => dedup(image, out, map, a, b),
+        CLEANUP => cleanup(image, out, map, a, b),
+        SORT => sort(image, out, map, a, b),
+        _ => read(image, out, a, b),
+    }
+}
+
+// Runs an entry of share_logic.rs.
+fn run_sharing(
+    entry: u32,
+    image: &[u8],
+    limit: u32,
+    out: &mut [u8],
+    a: &mut [u32],
+    b: &mut [u32],
+) -> Answer {
+    match entry {
+        FLATTEN => flatten(image, limit, out, a, b),
+        FACTOR => factor(image, out, a, b),
+        _ => share(image, limit, out, a, b),
+    }
+}
+
+// Runs an entry that answers, on what is lent.
+fn run_answering(
+    entry: u32,
+    recorded: &[u8],
+    out: &mut [u8],
+    map: &mut [u32],
+    outputs: &mut [u8],
+    state: &mut [u8],
+    a: &mut [u32],
+    b: &mut [u32],
+) -> Answer {
+    let image = part(recorded, IMAGE);
+    if entry < FLATTEN {
+        return run_network(entry, image, out, map, a, b);
+    }
+    if entry < EVALUATE {
+        return run_sharing(entry, image, word(recorded, K), out, a, b);
+    }
+    evaluate(image, part(recorded, INPUTS), state, outputs, a, b)
 }
 
 // Runs an entry on what is lent.
@@ -79,22 +142,10 @@ pub fn run(
     a: &mut [u32],
     b: &mut [u32],
 ) -> Got {
-    let image = part(recorded, IMAGE);
-    match entry {
-        READ => answered(read(image, out, a, b)),
-        CANONICAL => answered(canonical(image, out, map, a, b)),
-        DEDUP => answered(dedup(image, out, map, a, b)),
-        CLEANUP => answered(cleanup(image, out, map, a, b)),
-        SORT => answered(sort(image, out, map, a, b)),
-        FLATTEN => answered(flatten(image, word(recorded, K), out, a, b)),
-        FACTOR => answered(factor(image, out, a, b)),
-        SHARE => answered(share(image, word(recorded, K), out, a, b)),
-        EVALUATE => {
-            let inputs = part(recorded, INPUTS);
-            answered(evaluate(image, inputs, state, outputs, a, b))
-        }
-        _ => run_record(image, word(recorded, K)),
+    if entry == RECORD {
+        return run_record(part(recorded, IMAGE), word(recorded, K));
     }
+    answered(run_answering(entry, recorded, out, map, outputs, state, a, b))
 }
 
 fn answered(r: Answer) -> Got {

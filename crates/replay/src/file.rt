@@ -20,12 +20,17 @@ fn filled(fd: i32, buf: &mut [u8], from: usize, to: usize) -> bool {
     io::read_full(fd, &mut buf[from..to]) == to - from
 }
 
+// Whether these are the first three words of the entry's file.
+fn is_head(magic: u32, version: u32, code: u32, entry: u32) -> bool {
+    (magic == MAGIC) & (version == VERSION) & (code == entry)
+}
+
 // How many records follow, 0 where this is no file of the entry.
 pub fn count(fd: i32, entry: u32, buf: &mut [u8]) -> u32 {
     if !filled(fd, buf, 0, 16) {
         return 0;
     }
-    if (word(buf, 0) == MAGIC) & (word(buf, 1) == VERSION) & (word(buf, 2) == entry) {
+    if is_head(word(buf, 0), word(buf, 1), word(buf, 2), entry) {
         return word(buf, 3);
     }
     0

@@ -108,10 +108,13 @@ pub fn part(record: &[u8], part: usize) -> &[u8]
     slice(record, start(record, part), part_len(record, part))
 }
 
-// The state afterwards: all of it where evaluation accepts, else as it was.
-pub fn state_after(record: &[u8]) -> &[u8] {
+// The part that has the state afterwards: all of it where evaluation accepts, else as it was.
+pub fn state_part(record: &[u8]) -> usize
+    ensures { λ r. ⌜ r ≤ 7 ⌝ }
+{
     if size(record, length_word(STATE_AFTER)) == 0 {
-        return part(record, STATE_BEFORE);
+        STATE_BEFORE
+    } else {
+        STATE_AFTER
     }
-    part(record, STATE_AFTER)
 }

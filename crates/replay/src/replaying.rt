@@ -12,7 +12,7 @@ use crate::file;
 use crate::recorded;
 use crate::recorded::part;
 use crate::recorded::size;
-use crate::recorded::state_after;
+use crate::recorded::state_part;
 use crate::recorded::word;
 use libc::STDERR_FILENO;
 
@@ -88,6 +88,20 @@ fn is_answer(record: &[u8], got: Got) -> bool {
         & expect(b"start ", got.start == size(record, recorded::START))
 }
 
+// Whether buf has a part of the record, and the pattern behind it.
+fn has(what: &[u8], record: &[u8], k: usize, buf: &[u8]) -> bool
+    requires { ⌜ k ≤ 7 ⌝ }
+{
+    expect(what, holds(buf, part(record, k)))
+}
+
+fn has_mapping(record: &[u8], map: &[u32]) -> bool {
+    expect(
+        b"mapping ",
+        holds_words(map, part(record, recorded::MAPPING)),
+    )
+}
+
 fn are_results(
     record: &[u8],
     out: &[u8; 16640],
@@ -95,25 +109,23 @@ fn are_results(
     outputs: &[u8; 128],
     state: &[u8; 640],
 ) -> bool {
-    expect(b"result ", holds(out, part(record, recorded::RESULT)))
-        & expect(
-            b"mapping ",
-            holds_words(map, part(record, recorded::MAPPING)),
-        )
-        & expect(b"outputs ", holds(outputs, part(record, recorded::OUTPUT)))
-        & expect(b"state ", holds(state, state_after(record)))
+    has(b"result ", record, recorded::RESULT, out)
+        & has_mapping(record, map)
+        & has(b"outputs ", record, recorded::OUTPUT, outputs)
+        & has(b"state ", record, state_part(record), state)
+}
+
+// Whether an area, lent as word k of the record says, is as the entry leaves it.
+fn has_area(what: &[u8], record: &[u8], k: usize, area: &[u32]) -> bool {
+    expect(
+        what,
+        is_left(area, size(record, k), word(record, recorded::NUMBER)),
+    )
 }
 
 fn are_areas(record: &[u8], a: &[u32; 16448], b: &[u32; 16448]) -> bool {
-    let number = word(record, recorded::NUMBER);
-    expect(
-        b"first area ",
-        is_left(a, size(record, recorded::FIRST), number),
-    )
-        & expect(
-            b"second area ",
-            is_left(b, size(record, recorded::SECOND), number),
-        )
+    has_area(b"first area ", record, recorded::FIRST, a)
+        & has_area(b"second area ", record, recorded::SECOND, b)
 }
 
 // Whether the entry does what is recorded.
