@@ -1,3 +1,1 @@
-pub mod Merging
-pub mod Mappings
 pub mod Unique

@@ -2,5 +2,5 @@
 pub mod canonical;
 pub mod cleaning;
 pub mod deduplicate;
-mod merged;
+mod shell;
 pub mod sort;

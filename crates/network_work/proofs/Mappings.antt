@@ -1,4 +1,4 @@
--- The work of the entries that write a mapping: what the pass left in the other area is what is written.
+-- The work of sort and cleanup, and what all works share: what the pass left in the other area is what is written.
 use mathlib.Core.Path.{_≡_, refl, sym, ap, _∙_}
 use mathlib.Core.Bool.{Bool, true, false}
 use mathlib.Core.List.{List}
@@ -26,11 +26,11 @@ use Rattle.topo_sort.specs.Sorts.{Sortable, sortingOf, Sorted}
 use Rattle.topo_sort.specs.declared.Sorting.{Sorting}
 use Rattle.topo_sort.specs.declared.Sorting.the-variants.{Ordered, Looped}
 use Rattle.cleanup.specs.Marking.{Cleanable, Cleaned}
-use Rattle.network.specs.Works.{Passable, passed, cleanupPass, cleanupWork, sortPass, sortWork}
+use Rattle.network_work.specs.Works.{Passable, passed, cleanupPass, cleanupWork, sortPass, sortWork}
 use Rattle.load.proofs.Loading.{refused-is, network-holds, network-held, network-is}
 
 -- a mapping in the words, by what the words are
-mapping-is : (from l : List ℕ) (c : Counts) (τ : ℕ → ℕ) → ((v : ℕ) → v < c .nodes → cell l trBase v ≡ τ v) → mappingIn l (c .nodes) ≡ mappingOf (size (networkOf from c)) τ
+pub mapping-is : (from l : List ℕ) (c : Counts) (τ : ℕ → ℕ) → ((v : ℕ) → v < c .nodes → cell l trBase v ≡ τ v) → mappingIn l (c .nodes) ≡ mappingOf (size (networkOf from c)) τ
 unfolding mappingIn
 mapping-is from l c τ h = tab-ext (cell l trBase) τ (c .nodes) h ∙ ap (tab τ) (sym (size-network from c))
 
@@ -99,12 +99,12 @@ module _ (k : ℕ) (img l : List ℕ) (x : Loaded) (R : Read k img l x) where
   load-passable c b q h = record { held = network-held k img l x R c q; room = omega arith }
 
   -- refused, or what the pass makes of the image's network
-  load-refused : (n : ℕ) → x ≡ Refused n → (o : Outcome) (out second : List ℕ) → Answered2 (inRoom (length out) (length second) (unless k o)) out second (answers.Refused n) out second
+  pub load-refused : (n : ℕ) → x ≡ Refused n → (o : Outcome) (out second : List ℕ) → Answered2 (inRoom (length out) (length second) (unless k o)) out second (answers.Refused n) out second
   load-refused n q o out second =
       let z = refused-is k img l x R n q o in
       record { first = record { answer = rw z; result = rw z }; second-is = rw z }
 
-  load-passed : (c : Counts) → x ≡ Network c → (pass : Net → Outcome) (out second : List ℕ) (r : Answer) (out′ second′ : List ℕ)
+  pub load-passed : (c : Counts) → x ≡ Network c → (pass : Net → Outcome) (out second : List ℕ) (r : Answer) (out′ second′ : List ℕ)
       → Answered2 (passed pass (networkOf l c) (length out) (length second)) out second r out′ second′
       → Answered2 (inRoom (length out) (length second) (unless k (pass (netOf img)))) out second r out′ second′
   load-passed c q pass out second r out′ second′ D =

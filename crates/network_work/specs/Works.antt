@@ -18,6 +18,10 @@ dedupWork can img room words =
     let N = netOf img in
     inRoom room words (unless (sortedRefusalOf img) (written (imageOf (dedupWith (normOf can) N)) (mappingOf (size N) (dedupMap (normOf can) N))))
 
+-- of it, what is made of the network
+unfoldable pub dedupPass : Bool → Net → Outcome
+dedupPass can N = written (imageOf (dedupWith (normOf can) N)) (mappingOf (size N) (dedupMap (normOf can) N))
+
 -- a network in one area, and the other to work in
 pub record Passable (from to : List ℕ) (c : Counts) : Type 0 where
   pub held : Held from c

@@ -1,12 +1,13 @@
 use Rattle.model.specs.Entries.{canonicalOutcome}
-use Rattle.network.specs.Works.{dedupWork}
+use Rattle.network_work.specs.Works.{dedupWork}
+use Rattle.network_work.specs.Tasks.{workOf}
 use borrow.Author.Needs.{needs}
 use Rattle.network.proofs.canonical.canonical.Statement.{statement}
 use Rattle.network.proofs.canonical.canonical.Tie as tie
 
 returns : tie.Need-returns
-unfolding canonicalOutcome dedupWork
-returns c = c .before .before .before .before .before .before .before .before .merged .ensures
+unfolding canonicalOutcome workOf dedupWork
+returns c = c .before .before .before .before .before .before .before .before .enter .ensures
 
 pub canonical-spec : {M : Type 1} → statement M
 canonical-spec =

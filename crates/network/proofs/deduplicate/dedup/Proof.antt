@@ -1,12 +1,13 @@
 use Rattle.model.specs.Entries.{dedupOutcome}
-use Rattle.network.specs.Works.{dedupWork}
+use Rattle.network_work.specs.Works.{dedupWork}
+use Rattle.network_work.specs.Tasks.{workOf}
 use borrow.Author.Needs.{needs}
 use Rattle.network.proofs.deduplicate.dedup.Statement.{statement}
 use Rattle.network.proofs.deduplicate.dedup.Tie as tie
 
 returns : tie.Need-returns
-unfolding dedupOutcome dedupWork
-returns c = c .before .before .before .before .before .before .before .before .merged .ensures
+unfolding dedupOutcome workOf dedupWork
+returns c = c .before .before .before .before .before .before .before .before .enter .ensures
 
 pub dedup-spec : {M : Type 1} → statement M
 dedup-spec =

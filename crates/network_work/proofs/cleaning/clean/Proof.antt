@@ -1,10 +1,10 @@
 use borrow.Author.Needs.{needs}
-use Rattle.network.proofs.Mappings.{mapped}
-use Rattle.network.proofs.cleaning.work.Statement.{statement}
-use Rattle.network.proofs.cleaning.work.Tie as tie
+use Rattle.network_work.proofs.Mappings.{mapped}
+use Rattle.network_work.proofs.cleaning.clean.Statement.{statement}
+use Rattle.network_work.proofs.cleaning.clean.Tie as tie
 
-pub work-spec : {M : Type 1} → statement M
-work-spec =
+pub clean-spec : {M : Type 1} → statement M
+clean-spec =
     tie.close
     (tie.spec
     (λ c κs. search (needs, mapped))

@@ -1,10 +1,10 @@
 use borrow.Author.Needs.{needs}
-use Rattle.network.proofs.Mappings.{mapped}
-use Rattle.network.proofs.sort.work.Statement.{statement}
-use Rattle.network.proofs.sort.work.Tie as tie
+use Rattle.network_work.proofs.Mappings.{mapped}
+use Rattle.network_work.proofs.sorting.sort.Statement.{statement}
+use Rattle.network_work.proofs.sorting.sort.Tie as tie
 
-pub work-spec : {M : Type 1} → statement M
-work-spec =
+pub sort-spec : {M : Type 1} → statement M
+sort-spec =
     tie.close
     (tie.spec
     (λ c κs. search (needs, mapped))
