@@ -1,37 +1,13 @@
-use borrow.Author.Needs.{needs}
 use Rattle.model.specs.Entries.{factorOutcome}
-use Rattle.tables.proofs.Entering.{enters, long-b, areas-lent, areas-both, same-back, kept-both}
-use Rattle.sharing.specs.Works.{imagedWork, factorPass}
+use Rattle.sharing_work.specs.Works.{imagedWork, factorPass}
+use Rattle.sharing_work.specs.Tasks.{passOf}
+use borrow.Author.Needs.{needs}
 use Rattle.sharing.proofs.factor.factor.Statement.{statement}
 use Rattle.sharing.proofs.factor.factor.Tie as tie
 
 returns : tie.Need-returns
-unfolding factorOutcome
-returns c = search (needs, enters)
-
-clear-areas-requires : tie.Need-clear-areas-requires
-clear-areas-requires c κs =
-    let w = c .before .before .before .before .before .before .before .before in
-    areas-both _ _ _ (c .before .before .before .before .before .before .before .before .before .before .before .before .before .areas-short .ensures) (c .before .before .before .before .before .before .before .before .before .before .before .before .if1 .left) (w .work .last .1 .1 .0) (w .work .kept .1 .1 .0) (w .work .last .1 .1 .1 .0) (w .work .kept .1 .1 .1 .0)
-
-same-length-4 : tie.Need-same-length-4
-same-length-4 c =
-    let k = c .before .before .before .before in
-    let w = c .before .before .before .before .before .before .before .before .before .before .before .before .before in
-    same-back (w .work .last .1 .1 .0) (c .before .before .before .before .before .before .before .before .before .before .before .before .before .before .before .before .before .before .before .before .before .before .before .before .before .args .a .now) (w .work .kept .1 .1 .0) (k .clear-areas .last .0) (k .clear-areas .kept .0)
-
-same-length-5 : tie.Need-same-length-5
-same-length-5 c =
-    let k = c .before .before .before .before in
-    let w = c .before .before .before .before .before .before .before .before .before .before .before .before .before in
-    same-back (w .work .last .1 .1 .1 .0) (c .before .before .before .before .before .before .before .before .before .before .before .before .before .before .before .before .before .before .before .before .before .before .before .before .before .args .b .now) (w .work .kept .1 .1 .1 .0) (k .clear-areas .last .1 .0) (k .clear-areas .kept .1 .0)
-
-returns-2 : tie.Need-returns-2
-unfolding factorOutcome imagedWork factorPass
-returns-2 c =
-    let k = c .before .before .before .before in
-    let w = c .before .before .before .before .before .before .before .before .before .before .before .before .before in
-    kept-both _ _ _ (c .before .before .before .before .before .before .before .before .before .before .before .before .before .before .before .before .before .before .areas-short .ensures) (c .before .before .before .before .before .before .before .before .before .before .before .before .before .before .before .before .before .if1 .left) (w .work .last .1 .1 .0) (w .work .kept .1 .1 .0) (w .work .last .1 .1 .1 .0) (w .work .kept .1 .1 .1 .0) _ _ (k .clear-areas .ensures) _ _ _ _ (w .work .ensures)
+unfolding factorOutcome imagedWork factorPass passOf
+returns c = c .before .before .before .before .before .before .enter .ensures
 
 pub factor-spec : {M : Type 1} → statement M
 factor-spec =
@@ -40,16 +16,5 @@ factor-spec =
     (λ c κs. search needs)
     (λ c. search needs)
     (λ c. search needs)
-    returns
     (λ c. search needs)
-    (λ c. search needs)
-    (λ c. search (needs, enters))
-    (λ c. search needs)
-    (λ c. search needs)
-    (λ c. long-b _ _ _ (c .before .before .before .areas-short .ensures) (c .before .before .if1 .left))
-    (λ c κs. areas-lent _ _ _ (c .before .before .before .before .areas-short .ensures) (c .before .before .before .if1 .left))
-    clear-areas-requires
-    (λ c. search needs)
-    same-length-4
-    same-length-5
-    returns-2)
+    returns)

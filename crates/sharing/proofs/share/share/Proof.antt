@@ -1,38 +1,14 @@
-use borrow.Author.Needs.{needs}
 use Rattle.model.specs.Entries.{shareOutcome}
-use Rattle.tables.proofs.Entering.{enters, long-b, areas-lent, areas-both, same-back, kept-both}
-use Rattle.sharing.specs.Works.{imagedWork, sharePass}
+use Rattle.sharing_work.specs.Works.{imagedWork, sharePass}
+use Rattle.sharing_work.specs.Tasks.{passOf}
 use Rattle.share_logic.specs.Stages.{flatRefusal}
+use borrow.Author.Needs.{needs}
 use Rattle.sharing.proofs.share.share.Statement.{statement}
 use Rattle.sharing.proofs.share.share.Tie as tie
 
 returns : tie.Need-returns
-unfolding shareOutcome
-returns c = search (needs, enters)
-
-clear-areas-requires : tie.Need-clear-areas-requires
-clear-areas-requires c κs =
-    let w = c .before .before .before .before .before .before .before .before in
-    areas-both _ _ _ (c .before .before .before .before .before .before .before .before .before .before .before .before .before .areas-short .ensures) (c .before .before .before .before .before .before .before .before .before .before .before .before .if1 .left) (w .work .last .1 .1 .1 .0) (w .work .kept .1 .1 .1 .0) (w .work .last .1 .1 .1 .1 .0) (w .work .kept .1 .1 .1 .1 .0)
-
-same-length-4 : tie.Need-same-length-4
-same-length-4 c =
-    let k = c .before .before .before .before in
-    let w = c .before .before .before .before .before .before .before .before .before .before .before .before .before in
-    same-back (w .work .last .1 .1 .1 .0) (c .before .before .before .before .before .before .before .before .before .before .before .before .before .before .before .before .before .before .before .before .before .before .before .before .before .args .a .now) (w .work .kept .1 .1 .1 .0) (k .clear-areas .last .0) (k .clear-areas .kept .0)
-
-same-length-5 : tie.Need-same-length-5
-same-length-5 c =
-    let k = c .before .before .before .before in
-    let w = c .before .before .before .before .before .before .before .before .before .before .before .before .before in
-    same-back (w .work .last .1 .1 .1 .1 .0) (c .before .before .before .before .before .before .before .before .before .before .before .before .before .before .before .before .before .before .before .before .before .before .before .before .before .args .b .now) (w .work .kept .1 .1 .1 .1 .0) (k .clear-areas .last .1 .0) (k .clear-areas .kept .1 .0)
-
-returns-2 : tie.Need-returns-2
-unfolding shareOutcome imagedWork sharePass flatRefusal
-returns-2 c =
-    let k = c .before .before .before .before in
-    let w = c .before .before .before .before .before .before .before .before .before .before .before .before .before in
-    kept-both _ _ _ (c .before .before .before .before .before .before .before .before .before .before .before .before .before .before .before .before .before .before .areas-short .ensures) (c .before .before .before .before .before .before .before .before .before .before .before .before .before .before .before .before .before .if1 .left) (w .work .last .1 .1 .1 .0) (w .work .kept .1 .1 .1 .0) (w .work .last .1 .1 .1 .1 .0) (w .work .kept .1 .1 .1 .1 .0) _ _ (k .clear-areas .ensures) _ _ _ _ (w .work .ensures)
+unfolding shareOutcome imagedWork sharePass passOf flatRefusal
+returns c = c .before .before .before .before .before .before .enter .ensures
 
 pub share-spec : {M : Type 1} → statement M
 share-spec =
@@ -41,16 +17,5 @@ share-spec =
     (λ c κs. search needs)
     (λ c. search needs)
     (λ c. search needs)
-    returns
     (λ c. search needs)
-    (λ c. search needs)
-    (λ c. search (needs, enters))
-    (λ c. search needs)
-    (λ c. search needs)
-    (λ c. long-b _ _ _ (c .before .before .before .areas-short .ensures) (c .before .before .if1 .left))
-    (λ c κs. areas-lent _ _ _ (c .before .before .before .before .areas-short .ensures) (c .before .before .before .if1 .left))
-    clear-areas-requires
-    (λ c. search needs)
-    same-length-4
-    same-length-5
-    returns-2)
+    returns)

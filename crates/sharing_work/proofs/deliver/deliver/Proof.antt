@@ -1,7 +1,7 @@
 use borrow.Author.Needs.{needs}
-use Rattle.sharing.proofs.Passing.{delivers}
-use Rattle.sharing.proofs.deliver.deliver.Statement.{statement}
-use Rattle.sharing.proofs.deliver.deliver.Tie as tie
+use Rattle.sharing_work.proofs.Passing.{delivers}
+use Rattle.sharing_work.proofs.deliver.deliver.Statement.{statement}
+use Rattle.sharing_work.proofs.deliver.deliver.Tie as tie
 
 pub deliver-spec : {M : Type 1} → statement M
 deliver-spec =

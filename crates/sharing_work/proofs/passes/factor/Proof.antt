@@ -1,13 +1,13 @@
 use borrow.Author.Needs.{needs}
-use Rattle.sharing.proofs.Passing.{factor-repeats, passes}
-use Rattle.sharing.proofs.factor.pass.Statement.{statement}
-use Rattle.sharing.proofs.factor.pass.Tie as tie
+use Rattle.sharing_work.proofs.Passing.{factor-repeats, passes}
+use Rattle.sharing_work.proofs.passes.factor.Statement.{statement}
+use Rattle.sharing_work.proofs.passes.factor.Tie as tie
 
 returns : tie.Need-returns
 returns c = factor-repeats _ _ _ (c .before .any-repeats .ensures) (c .if1 .taken) _
 
-pub pass-spec : {M : Type 1} → statement M
-pass-spec =
+pub factor-spec : {M : Type 1} → statement M
+factor-spec =
     tie.close
     (tie.spec
     (λ c κs. search (needs, passes))

@@ -29,7 +29,7 @@ use Rattle.growth.specs.Growing.{countsOf}
 use Rattle.share_logic.specs.Stages.{Workable, Left, Staged, stageOf, firstMet, flatRefusal, shareRefusal}
 use Rattle.share_logic.specs.declared.stage.Stage.{Stage}
 use Rattle.share_logic.specs.declared.stage.Stage.the-variants.{Refused, Network}
-use Rattle.sharing.specs.Works.{imaged, delivered, Deliverable, flattenPass, factorPass, sharePass, imagedWork}
+use Rattle.sharing_work.specs.Works.{imaged, delivered, Deliverable, flattenPass, factorPass, sharePass, imagedWork}
 
 -- ---- delivering
 

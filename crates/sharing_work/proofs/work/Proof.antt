@@ -1,7 +1,7 @@
 use borrow.Author.Needs.{needs}
-use Rattle.sharing.proofs.Passing.{works}
-use Rattle.sharing.proofs.factor.work.Statement.{statement}
-use Rattle.sharing.proofs.factor.work.Tie as tie
+use Rattle.sharing_work.proofs.Passing.{works}
+use Rattle.sharing_work.proofs.work.Statement.{statement}
+use Rattle.sharing_work.proofs.work.Tie as tie
 
 pub work-spec : {M : Type 1} → statement M
 work-spec =

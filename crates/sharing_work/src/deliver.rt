@@ -1,7 +1,7 @@
 // What every entry here ends with: the refusal of its last stage, or 13, or the image of the network that the stage left.
 ghost use lib.ListN.{length};
 ghost use Rattle.tables.specs.Working.{Answered};
-ghost use Rattle.sharing.specs.Works.{Deliverable, delivered};
+ghost use Rattle.sharing_work.specs.Works.{Deliverable, delivered};
 use answers::Answer;
 use share_logic::stage::Stage;
 use write::write;
