@@ -5,3 +5,4 @@ pub mod Lines
 pub mod Lengths
 pub mod Answering
 pub mod Worked
+pub mod Names

@@ -7,10 +7,9 @@ use mathlib.Core.List.{List, [], _∷_}
 use lib.ListN.{length}
 use borrow.Author.Tests.{eqb-true, ltb-true, not-false}
 use Rattle.laws.specs.Bools.{bit}
-use Rattle.kinds.specs.declared.Kind.{Kind}
 use Rattle.laws.proofs.Choices.{by-bool}
 use Rattle.model.specs.Signal.{isInverted, isInput, isConstant}
-use Rattle.model.specs.Listing.{decimal, markText, signalText, kindText}
+use Rattle.model.specs.Listing.{decimal, markText, signalText}
 use Rattle.model.proofs.Words.{inv-odd, inv-even, constant-ref, var-ref, input-ref}
 use Rattle.signal.proofs.Masks.{input-high, some-low}
 use Rattle.listing.specs.Putting.{Put}
@@ -67,8 +66,3 @@ module _ (b : List ℕ) (at s : ℕ) (t : Bool) (e : t ≡ isConstant s) where
         rw (var-ref s (some-low s t e h) low, ← f, ← q) (put-then l P Q)
 
 pub ruleset signals = (mark-put, mark-none, input-high, some-low, signal-constant, signal-input, signal-var)
-
--- ---- put_kind
-
-pub kind-put : (b : List ℕ) (at : ℕ) (k k′ : Kind) → k ≡ k′ → (b′ : List ℕ) (r : ℕ) → Put b at (kindText k′) b′ r → Put b at (kindText k) b′ r
-kind-put b at k k′ e b′ r P = rw e P

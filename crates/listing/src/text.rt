@@ -2,9 +2,11 @@
 // left out, and places go on all the same.
 ghost use mathlib.Core.Path.{_≡_};
 ghost use mathlib.Core.List.{[], _∷_};
-ghost use Prim.Native.Nat.{_+_, _<_};
+ghost use Prim.Native.Nat.{_+_, _-_, _<_, _≤_};
+ghost use lib.ListN.{length, take, drop};
 ghost use Rattle.model.specs.Listing.{decimal, markText, signalText, kindText};
 ghost use Rattle.listing.specs.Putting.{place, Put};
+ghost use Rattle.listing.specs.Naming.{nameStart, nameEnd};
 use kinds::Kind;
 use signal::Signal;
 
@@ -88,24 +90,64 @@ pub fn put_signal(out: &mut [u8], at: usize, s: Signal) -> usize
     put_name(out, p, b'x', s.var() as u64)
 }
 
+// Where a kind's name begins in the text of all names, and where it ends.
+fn name_start(kind: Kind) -> usize
+    ensures { λ r. ⌜ r ≡ nameStart kind ⌝ }
+{
+    match kind {
+        Kind::And2 => 0,
+        Kind::Xor2 => 4,
+        Kind::And3 => 8,
+        Kind::Xor3 => 12,
+        Kind::Maj => 16,
+        Kind::Mux => 19,
+        Kind::AndN => 22,
+        Kind::OrN => 26,
+        Kind::NandN => 29,
+        Kind::NorN => 34,
+        Kind::XorN => 38,
+        Kind::XnorN => 42,
+        Kind::Buf => 47,
+        Kind::Dff => 50,
+        Kind::Lut => 53,
+    }
+}
+
+fn name_end(kind: Kind) -> usize
+    ensures { λ r. ⌜ r ≡ nameEnd kind ⌝ }
+{
+    match kind {
+        Kind::And2 => 4,
+        Kind::Xor2 => 8,
+        Kind::And3 => 12,
+        Kind::Xor3 => 16,
+        Kind::Maj => 19,
+        Kind::Mux => 22,
+        Kind::AndN => 26,
+        Kind::OrN => 29,
+        Kind::NandN => 34,
+        Kind::NorN => 38,
+        Kind::XorN => 42,
+        Kind::XnorN => 47,
+        Kind::Buf => 50,
+        Kind::Dff => 53,
+        Kind::Lut => 56,
+    }
+}
+
+// A part of a text.
+fn put_part(out: &mut [u8], at: usize, text: &[u8], from: usize, to: usize) -> usize
+    requires { ⌜ (from ≤ to) × (to ≤ length (now text)) ⌝ }
+    ensures { λ r. ⌜ Put (now (out .entry)) at (take (to - from) (drop from (now (text .entry)))) (now (out .exit)) r ⌝ }
+{
+    put_all(out, at, &text[from..to])
+}
+
 pub fn put_kind(out: &mut [u8], at: usize, kind: Kind) -> usize
     ensures { λ r. ⌜ Put (now (out .entry)) at (kindText kind) (now (out .exit)) r ⌝ }
 {
-    match kind {
-        Kind::And2 => put_all(out, at, b"And2"),
-        Kind::Xor2 => put_all(out, at, b"Xor2"),
-        Kind::And3 => put_all(out, at, b"And3"),
-        Kind::Xor3 => put_all(out, at, b"Xor3"),
-        Kind::Maj => put_all(out, at, b"Maj"),
-        Kind::Mux => put_all(out, at, b"Mux"),
-        Kind::AndN => put_all(out, at, b"AndN"),
-        Kind::OrN => put_all(out, at, b"OrN"),
-        Kind::NandN => put_all(out, at, b"NandN"),
-        Kind::NorN => put_all(out, at, b"NorN"),
-        Kind::XorN => put_all(out, at, b"XorN"),
-        Kind::XnorN => put_all(out, at, b"XnorN"),
-        Kind::Buf => put_all(out, at, b"Buf"),
-        Kind::Dff => put_all(out, at, b"Dff"),
-        Kind::Lut => put_all(out, at, b"Lut"),
-    }
+    let from = name_start(kind);
+    let to = name_end(kind);
+    let names = b"And2Xor2And3Xor3MajMuxAndNOrNNandNNorNXorNXnorNBufDffLut";
+    put_part(out, at, names, from, to)
 }
