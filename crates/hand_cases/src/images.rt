@@ -63,17 +63,31 @@ pub fn write(img: &mut [u8], body: &[u32], inputs: u32, nodes: u32, outputs: u32
     end(img, at, inputs, nodes, outputs)
 }
 
+// Input k as a signal.
+fn input(k: u32) -> u32
+    requires { ⌜ k ≤ 1001 ⌝ }
+{
+    I0 - 2 * k
+}
+
+// The header of an n-ary And.
+fn and_n(n: u32) -> u32
+    requires { ⌜ n ≤ 1001 ⌝ }
+{
+    6 + 256 * n
+}
+
 // An n-ary And of inputs 0 up to `shared` and of one more.
 fn put_wide(img: &mut [u8], from: usize, shared: u32, own: u32) -> usize
     requires { ⌜ (shared ≤ 1000) × (own ≤ 1001) ⌝ }
 {
-    let mut at = put(img, from, 6 + 256 * (shared + 1));
+    let mut at = put(img, from, and_n(shared + 1));
     let mut k: u32 = 0;
     while k < shared {
-        at = put(img, at, I0 - 2 * k);
+        at = put(img, at, input(k));
         k += 1;
     }
-    put(img, at, I0 - 2 * own)
+    put(img, at, input(own))
 }
 
 // Two Ands that share so many signals, each with one of its own.

@@ -35,18 +35,30 @@ enum Entry {
 }
 
 // An entry on an image, with the flattening limit of document 01's example.
+fn run_in(
+    entry: Entry,
+    image: &[u8],
+    out: &mut [u8],
+    map: &mut [u32],
+    a: &mut [u32],
+    b: &mut [u32],
+) -> Answer {
+    match entry {
+        Entry::Canonical => canonical(image, out, map, a, b),
+        Entry::Dedup => dedup(image, out, map, a, b),
+        Entry::Sort => sort(image, out, map, a, b),
+        Entry::Flatten => flatten(image, 64, out, a, b),
+        Entry::Factor => factor(image, out, a, b),
+        Entry::Share => share(image, 64, out, a, b),
+    }
+}
+
+// The same with areas and a mapping of its own.
 fn run(entry: Entry, image: &[u8], out: &mut [u8]) -> Answer {
     let mut map = [0u32; 512];
     let mut a = [0u32; 16384];
     let mut b = [0u32; 16384];
-    match entry {
-        Entry::Canonical => canonical(image, out, &mut map, &mut a, &mut b),
-        Entry::Dedup => dedup(image, out, &mut map, &mut a, &mut b),
-        Entry::Sort => sort(image, out, &mut map, &mut a, &mut b),
-        Entry::Flatten => flatten(image, 64, out, &mut a, &mut b),
-        Entry::Factor => factor(image, out, &mut a, &mut b),
-        Entry::Share => share(image, 64, out, &mut a, &mut b),
-    }
+    run_in(entry, image, out, &mut map, &mut a, &mut b)
 }
 
 fn print(text: &[u8]) {
