@@ -78,8 +78,15 @@ module _ (from to : List ℕ) (c : Counts) (P : Passable from to c) where
   cleanup-asks = record { held = P .held; room = P .room }
 
   module _ (l : List ℕ) (d : Counts) (S : Cleaned from l c d) where
-    pub cleanup-held : (n : ℕ) → n ≡ c .nodes → HeldMapped l d n
-    cleanup-held n e = record { held = S .holds .held; inside = rw e (behind l (S .room)) }
+    -- as many words as a network has nodes, the old one or the new
+    pub cleanup-held : (n : ℕ) → n ≤ 512 → HeldMapped l d n
+    cleanup-held n h = record { held = S .holds .held; inside = let r = S .room in omega arith }
+
+    pub old-few : c .nodes ≤ 512
+    old-few = nodes-few from c (P .held)
+
+    pub new-few : d .nodes ≤ 512
+    new-few = nodes-few l d (S .holds .held)
 
     pub cleanup-written : (out second : List ℕ) (r : Answer) (out′ second′ : List ℕ)
         → Answered2 (inRoom (length out) (length second) (written (imageOf (networkOf l d)) (mappingIn l (c .nodes)))) out second r out′ second′
@@ -90,7 +97,7 @@ module _ (from to : List ℕ) (c : Counts) (P : Passable from to c) where
         let m = mapping-is from l c (translation (size (networkOf from c)) (cleanupOrder (networkOf from c))) (S .map) in
         rw (← n, ← m) D
 
-pub ruleset passes = (sort-asks, sort-held, sort-looped, sort-written, cleanup-asks, cleanup-held, cleanup-written)
+pub ruleset passes = (sort-asks, sort-held, sort-looped, sort-written, cleanup-asks, cleanup-held, old-few, new-few, cleanup-written)
 
 -- ---- behind the loading of the image
 

@@ -1,3 +1,4 @@
+-- Cleaned up, then written with its mapping: each by its law.
 use borrow.Author.Needs.{needs}
 use Rattle.network_work.proofs.Mappings.{passes}
 use Rattle.network_work.proofs.cleaning.pass.Statement.{statement}
