@@ -1,3 +1,4 @@
+pub mod Turns
 pub mod Tabled
 pub mod Moves
 pub mod Numbers

@@ -3,22 +3,24 @@ use Prim.Native.Nat.{ℕ, zero, suc, _+_, _-_, _*_, _^_, _≤_, _<_}
 use mathlib.Core.Path.{_≡_, refl, sym, ap, ap₂, fun-ext, subst, _∙_}
 use mathlib.Core.Bool.{true}
 use mathlib.Core.List.{List, [], _∷_, _++_}
-use native.Mathlib.Nat.{le-refl}
+use native.Mathlib.Nat.{le-refl, le-antisymm}
 use native.Mathlib.Omega.{arith}
 use native.Mathlib.Numerals.{add-one}
 use native.Mathlib.Decide.{decLt}
 use lib.ListN.{length, getD, take, drop, length-drop}
 use lib.Seq.{take-all, getD-drop}
+use mir.Val.{Fits}
+use mir.Syntax.{w32, w64}
 use Rattle.laws.specs.Lists.{tab}
 use Rattle.laws.proofs.Tabs.{map-tab}
 use Rattle.model.specs.Signal.{isVar, remapOrder}
 use Rattle.model.specs.Gate.{Gate, remapGate}
 use Rattle.shape.proofs.Wires.{var-low}
-use Rattle.tables.specs.Layout.{span, kindAt, firstAt, countAt, inputAt, insAt, lowAt, highAt, outputAt, gateAt, putInput, putOutput, cell, trBase, orderBase}
-use Rattle.tables.specs.Building.{putInputs, putOutputs}
+use Rattle.tables.specs.Layout.{netSize, span, kindAt, firstAt, countAt, inputAt, insAt, lowAt, highAt, outputAt, gateAt, putInput, putGate, putTable, putOutput, cell, trBase, orderBase}
+use Rattle.tables.specs.Building.{putInputs, putNode, putOutputs}
 use Rattle.tables.specs.declared.counts.Counts.{Counts}
 use Rattle.shape.proofs.Written.{gate-eq}
-use Rattle.tables.proofs.Building.{length-putInputs, putInputs-next, cell-putInputs, length-putNode, cell-putNode, nodesOf-none, nodesOf-putNode, packed-none, packed-putNode, length-putOutputs, putOutputs-next, cell-putOutputs}
+use Rattle.tables.proofs.Building.{putInputs-next, cell-putInputs, length-putNode, cell-putNode, nodesOf-none, nodesOf-putNode, packed-none, packed-putNode, putOutputs-next, cell-putOutputs}
 use Rattle.remap.specs.Remapping.{inputsBy, outputsBy, Copying, Placing, Put, inputsOf, Mapping, gateBy, Moving, Mapped, OutMapping}
 
 -- ---- one signal, through the mapping behind the network
@@ -37,44 +39,78 @@ module _ (l : List ℕ) (s : ℕ) where
 
 -- ---- the inputs of a gate
 
-module _ (from l : List ℕ) (f at n : ℕ) (C : Copying from l f at n) (e : List ℕ) (j : ℕ) (q : e ≡ putInputs l at (inputsBy from (cell l trBase) f) j) (h : j < n) where
-  pub copy-turn : span ≤ length e
-  copy-turn = let r = C .room in rw q (omega (arith, length-putInputs l at (inputsBy from (cell l trBase) f) j))
-
-  pub copy-next : (s x : ℕ) (e′ : List ℕ) → s ≡ inputAt from (f + j) → x ≡ remapOrder (cell e trBase) s → e′ ≡ putInput e (at + j) x
-      → e′ ≡ putInputs l at (inputsBy from (cell l trBase) f) (j + 1)
-  unfolding inputsBy
-  copy-next s x e′ y z w =
-      let into = C .into in
-      let same : cell e trBase ≡ cell l trBase = fun-ext (λ v.
-      ap (λ (a : List ℕ). cell a trBase v) q ∙ cell-putInputs l at (inputsBy from (cell l trBase) f) j trBase v (omega arith) (omega arith)) in
-      let x-is : x ≡ remapOrder (cell l trBase) (inputAt from (f + j)) = z ∙ ap₂ remapOrder same y in
-      rw (add-one j) (w ∙ ap (λ (a : List ℕ). putInput a (at + j) x) q ∙ putInputs-next l at (inputsBy from (cell l trBase) f) j x x-is)
-
 pub copy-none : (l : List ℕ) (at : ℕ) (f : ℕ → ℕ) → l ≡ putInputs l at f 0
 unfolding putInputs
 copy-none l at f = refl
 
-pub copy-done : (l e : List ℕ) (at j n : ℕ) (f : ℕ → ℕ) → e ≡ putInputs l at f j → j ≤ n → n ≤ j → e ≡ putInputs l at f n
-copy-done l e at j n f q a b = q ∙ ap (putInputs l at f) (let z : j ≡ n = omega arith in z)
+module _ (from l : List ℕ) (f at n : ℕ) (C : Copying from l f at n) (e : List ℕ) (j : ℕ) (I : (j ≤ n) × (length e ≡ length l) × (e ≡ putInputs l at (inputsBy from (cell l trBase) f) j)) where
+  pub copy-done : n ≤ j → e ≡ putInputs l at (inputsBy from (cell l trBase) f) n
+  copy-done h = I .2 ∙ ap (putInputs l at (inputsBy from (cell l trBase) f)) (le-antisymm (I .0) h)
 
-pub ruleset copies = (copy-turn, copy-next, copy-none, copy-done)
+  module _ (h : j < n) where
+    pub copy-read : Fits w64 (f + j)
+    copy-read = record { fits = omega (arith, C .fits) }
+
+    pub copy-input : (f + j < 2048) × (netSize ≤ length from)
+    copy-input = (omega (arith, C .fits), C .long)
+
+    pub copy-turn : span ≤ length e
+    copy-turn = rw (I .1) (C .room)
+
+    pub copy-put : Fits w64 (at + j)
+    copy-put = record { fits = omega (arith, C .into) }
+
+    pub copy-place : (at + j < 2048) × (netSize ≤ length e)
+    copy-place = (omega (arith, C .into), omega (arith, copy-turn))
+
+    pub copy-next : (s x : ℕ) (e′ : List ℕ) → s ≡ inputAt from (f + j) → x ≡ remapOrder (cell e trBase) s → length e′ ≡ length e → e′ ≡ putInput e (at + j) x
+        → (j + 1 ≤ n) × (length e′ ≡ length l) × (e′ ≡ putInputs l at (inputsBy from (cell l trBase) f) (j + 1))
+    unfolding inputsBy
+    copy-next s x e′ y z k w =
+        let into = C .into in
+        let q = I .2 in
+        let same : cell e trBase ≡ cell l trBase = fun-ext (λ v.
+        ap (λ (a : List ℕ). cell a trBase v) q ∙ cell-putInputs l at (inputsBy from (cell l trBase) f) j trBase v (omega arith) (omega arith)) in
+        let x-is : x ≡ remapOrder (cell l trBase) (inputAt from (f + j)) = z ∙ ap₂ remapOrder same y in (
+          omega arith,
+          k ∙ I .1,
+          rw (add-one j) (w ∙ ap (λ (a : List ℕ). putInput a (at + j) x) q ∙ putInputs-next l at (inputsBy from (cell l trBase) f) j x x-is),
+        )
 
 -- ---- a gate
 
 module _ (from l : List ℕ) (c : Counts) (v k at : ℕ) (P : Placing from l c v k at) where
-  pub place-copy : (f n : ℕ) → f ≡ firstAt from v → n ≡ countAt from v → Copying from l f at n
-  place-copy f n p q = record {
-    long = P .ok .long;
-    room = P .room;
-    fits = rw (p, q) (P .ok .ends v (P .node));
-    into = rw q (P .into);
-  }
+  -- what reading the node asks
+  pub place-read : (v < 512) × (netSize ≤ length from)
+  place-read = (omega (arith, P .node, P .ok .few), P .ok .long)
 
-  pub place-node : v < 512
-  place-node = let a = P .node in let b = P .ok .few in omega arith
+  pub place-at : Fits w32 at
+  place-at = record { fits = omega (arith, P .into) }
 
-pub ruleset places = (place-copy, place-node)
+  -- what writing the node asks
+  pub place-room : (n : ℕ) → n ≡ length l → (k < 512) × (netSize ≤ n)
+  place-room n e = (P .place, omega (arith, P .room))
+
+  module _ (n : ℕ) (q : n ≡ countAt from v) where
+    pub place-copy : (f : ℕ) → f ≡ firstAt from v → Copying from l f at n
+    place-copy f p = record {
+      long = P .ok .long;
+      room = P .room;
+      fits = rw (p, q) (P .ok .ends v (P .node));
+      into = rw q (P .into);
+    }
+
+    pub place-count : Fits w32 n
+    place-count = record { fits = omega (arith, P .into) }
+
+    pub place-sum : Fits w64 (at + n)
+    place-sum = record { fits = omega (arith, P .into) }
+
+    module _ (f kind lo hi : ℕ) (p : f ≡ firstAt from v) (x : kind ≡ kindAt from v) (y : lo ≡ lowAt from v) (z : hi ≡ highAt from v) where
+      pub place-done : (l1 l2 l3 : List ℕ) → l1 ≡ putInputs l at (inputsBy from (cell l trBase) f) n → l2 ≡ putGate l1 k kind at n → l3 ≡ putTable l2 k lo hi
+          → Put from l l3 v k at (at + n)
+      unfolding putNode
+      place-done l1 l2 l3 a b d = record { words = d ∙ rw (b, a, p, q, x, y, z); next = rw q }
 
 -- ---- the gates of the order
 
@@ -108,6 +144,9 @@ gate-moved from t v = gate-eq refl (sym (map-tab (remapOrder t) (λ j. inputAt f
 module _ (from l : List ℕ) (c : Counts) (m : ℕ) (M : Mapping from l c m) (e : List ℕ) (k at : ℕ) (K : Moving from l e k at) (h : k < m) where
   pub move-order : 5184 + k < length e
   move-order = let r = K .room in let few = M .few in omega arith
+
+  pub move-count : Fits w64 (k + 1)
+  move-count = record { fits = omega (arith, M .few) }
 
   module _ (v : ℕ) (w : v ≡ cell e orderBase k) where
     v-is : v ≡ cell l orderBase k
@@ -149,29 +188,36 @@ move-done from l e m k at K a b =
     let f : at ≡ inputsOf from l m = K .free ∙ ap (inputsOf from l) z in
     record { moved = subst (λ (x : ℕ). Moving from l e m x) f (subst (λ (x : ℕ). Moving from l e x at) z K) }
 
-pub ruleset moves = (move-none, move-order, move-place, move-next, move-done)
-
 -- ---- the outputs
-
-module _ (from l : List ℕ) (o : ℕ) (O : OutMapping from l o) (e : List ℕ) (j : ℕ) (q : e ≡ putOutputs l (outputsBy from (cell l trBase)) j) (h : j < o) where
-  pub out-turn : span ≤ length e
-  out-turn = let r = O .room in rw q (omega (arith, length-putOutputs l (outputsBy from (cell l trBase)) j))
-
-  pub out-next : (s x : ℕ) (e′ : List ℕ) → s ≡ outputAt from j → x ≡ remapOrder (cell e trBase) s → e′ ≡ putOutput e j x
-      → e′ ≡ putOutputs l (outputsBy from (cell l trBase)) (j + 1)
-  unfolding outputsBy
-  out-next s x e′ y z w =
-      let few = O .few in
-      let same : cell e trBase ≡ cell l trBase = fun-ext (λ v.
-      ap (λ (a : List ℕ). cell a trBase v) q ∙ cell-putOutputs l (outputsBy from (cell l trBase)) j trBase v (omega arith) (omega arith)) in
-      let x-is : x ≡ remapOrder (cell l trBase) (outputAt from j) = z ∙ ap₂ remapOrder same y in
-      rw (add-one j) (w ∙ ap (λ (a : List ℕ). putOutput a j x) q ∙ putOutputs-next l (outputsBy from (cell l trBase)) j x x-is)
 
 pub out-none : (l : List ℕ) (f : ℕ → ℕ) → l ≡ putOutputs l f 0
 unfolding putOutputs
 out-none l f = refl
 
-pub out-done : (l e : List ℕ) (j o : ℕ) (f : ℕ → ℕ) → e ≡ putOutputs l f j → j ≤ o → o ≤ j → e ≡ putOutputs l f o
-out-done l e j o f q a b = q ∙ ap (putOutputs l f) (let z : j ≡ o = omega arith in z)
+module _ (from l : List ℕ) (o : ℕ) (O : OutMapping from l o) (e : List ℕ) (j : ℕ) (I : (j ≤ o) × (length e ≡ length l) × (e ≡ putOutputs l (outputsBy from (cell l trBase)) j)) where
+  pub out-done : o ≤ j → e ≡ putOutputs l (outputsBy from (cell l trBase)) o
+  out-done h = I .2 ∙ ap (putOutputs l (outputsBy from (cell l trBase))) (le-antisymm (I .0) h)
 
-pub ruleset outs = (out-turn, out-next, out-none, out-done)
+  module _ (h : j < o) where
+    pub out-read : (j < 64) × (netSize ≤ length from)
+    out-read = (omega (arith, O .few), O .long)
+
+    pub out-turn : span ≤ length e
+    out-turn = rw (I .1) (O .room)
+
+    pub out-place : (j < 64) × (netSize ≤ length e)
+    out-place = (omega (arith, O .few), omega (arith, out-turn))
+
+    pub out-next : (s x : ℕ) (e′ : List ℕ) → s ≡ outputAt from j → x ≡ remapOrder (cell e trBase) s → length e′ ≡ length e → e′ ≡ putOutput e j x
+        → (j + 1 ≤ o) × (length e′ ≡ length l) × (e′ ≡ putOutputs l (outputsBy from (cell l trBase)) (j + 1))
+    unfolding outputsBy
+    out-next s x e′ y z k w =
+        let few = O .few in
+        let q = I .2 in
+        let same : cell e trBase ≡ cell l trBase = fun-ext (λ v.
+        ap (λ (a : List ℕ). cell a trBase v) q ∙ cell-putOutputs l (outputsBy from (cell l trBase)) j trBase v (omega arith) (omega arith)) in
+        let x-is : x ≡ remapOrder (cell l trBase) (outputAt from j) = z ∙ ap₂ remapOrder same y in (
+          omega arith,
+          k ∙ I .1,
+          rw (add-one j) (w ∙ ap (λ (a : List ℕ). putOutput a j x) q ∙ putOutputs-next l (outputsBy from (cell l trBase)) j x x-is),
+        )

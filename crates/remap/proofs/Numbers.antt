@@ -6,6 +6,8 @@ use mathlib.Core.List.{List, [], _∷_, _++_}
 use native.Mathlib.Omega.{arith}
 use native.Mathlib.Numerals.{add-one}
 use native.Mathlib.Decide.{ℕ-discrete}
+use mir.Val.{Fits}
+use mir.Syntax.{w32, w64}
 use lib.ListN.{length, getD, set, length-set, replicate, length-replicate}
 use lib.Seq.{getD-set-same, getD-set-other}
 use Rattle.model.specs.Signal.{fromVar}
@@ -71,6 +73,12 @@ module _ (l z : List ℕ) (n m : ℕ) (C : Numbering l n m) (q : z ≡ clearedTa
     pub number-small : k < m → k < 1073741823
     number-small h = let few = C .few in omega arith
 
+    pub number-word : k < m → Fits w32 k
+    number-word h = record { fits = omega (arith, C .few) }
+
+    pub number-count : k < m → Fits w64 (k + 1)
+    number-count h = record { fits = omega (arith, C .few) }
+
     module _ (v : ℕ) (h : k < m) (w : v ≡ cell e orderBase k) where
       v-is : v ≡ cell z orderBase k
       v-is = w ∙ S .order k
@@ -107,5 +115,3 @@ module _ (l z : List ℕ) (n m : ℕ) (C : Numbering l n m) (q : z ≡ clearedTa
             order = λ j. S .order j ∙ z-order j;
           };
         }
-
-pub ruleset numbers = (number-table, number-none, number-order, number-small, number-place, number-next, number-done)

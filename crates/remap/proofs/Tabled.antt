@@ -3,7 +3,7 @@ use mathlib.Core.Path.{_≡_, refl, ap, _∙_}
 use mathlib.Core.Logic.{_≢_}
 use mathlib.Core.Bool.{Bool, true, false, cond}
 use Prim.Native.Nat.{ℕ, zero, suc, _+_, _<_, _≤_, zero-le}
-use native.Mathlib.Nat.{not-suc-le-zero, le-refl}
+use native.Mathlib.Nat.{not-suc-le-zero, le-refl, le-antisymm}
 use native.Mathlib.Omega.{arith}
 use native.Mathlib.Decide.{ℕ-discrete}
 use native.Mathlib.Numerals.{add-one}
@@ -53,14 +53,17 @@ pub clear-none : (l : List ℕ) (b : ℕ) → l ≡ clearedTable l b 0
 unfolding clearedTable
 clear-none l b = refl
 
-pub clear-next : (l e e′ : List ℕ) (b k : ℕ) → e ≡ clearedTable l b k → e′ ≡ store e b k 0 → e′ ≡ clearedTable l b (k + 1)
-unfolding clearedTable
-clear-next l e e′ b k q w = rw add-one (cc)
+module _ (l : List ℕ) (b n : ℕ) (e : List ℕ) (k : ℕ) (I : (k ≤ n) × (length e ≡ length l) × (e ≡ clearedTable l b k)) where
+  pub clear-done : n ≤ k → e ≡ clearedTable l b n
+  clear-done h = I .2 ∙ ap (clearedTable l b) (le-antisymm (I .0) h)
 
-pub clear-done : (l e : List ℕ) (b k n : ℕ) → e ≡ clearedTable l b k → k ≤ n → n ≤ k → e ≡ clearedTable l b n
-clear-done l e b k n q x y = q ∙ ap (clearedTable l b) (let z : k ≡ n = omega arith in z)
+  module _ (h : k < n) where
+    pub clear-room : b + n ≤ length l → b + k < length e
+    clear-room r = rw (I .1) (omega arith)
 
-pub ruleset clears = (clear-none, clear-next, clear-done)
+    pub clear-next : (e′ : List ℕ) → length e′ ≡ length e → e′ ≡ store e b k 0 → (k + 1 ≤ n) × (length e′ ≡ length l) × (e′ ≡ clearedTable l b (k + 1))
+    unfolding clearedTable
+    clear-next e′ s w = (omega arith, s ∙ I .1, rw add-one (w ∙ ap (λ (x : List ℕ). store x b k 0) (I .2)))
 
 -- ---- the stack and the order
 

@@ -1,11 +1,11 @@
-use borrow.Author.Needs.{needs}
-use Prim.Native.Nat.{_≤_, _-_}
-use mathlib.Core.Path.{_≡_}
+use Prim.Native.Nat.{_≤_, _-_, zero-le}
+use mathlib.Core.Path.{_≡_, refl}
 use lib.ListN.{length}
 use Rattle.tables.specs.Layout.{cell, trBase}
 use Rattle.tables.specs.Building.{putInputs}
 use Rattle.remap.specs.Remapping.{inputsBy}
-use Rattle.remap.proofs.Moves.{copies}
+use Rattle.remap.proofs.Turns.{turn-less, turn-fits}
+use Rattle.remap.proofs.Moves.{copy-none, copy-done, copy-read, copy-input, copy-turn, copy-put, copy-place, copy-next}
 use Rattle.remap.proofs.copy_inputs.Statement.{statement}
 use Rattle.remap.proofs.copy_inputs.Tie as tie
 
@@ -21,14 +21,14 @@ copy-inputs-spec =
     (tie.spec
     Inv-loop
     μ-loop
-    (λ c. search (needs, copies))
-    (λ c. search (needs, copies))
-    (λ c κs. search (needs, copies))
-    (λ c κs. search (needs, copies))
-    (λ c. search (needs, copies))
-    (λ c κs. search (needs, copies))
-    (λ c. search (needs, copies))
-    (λ c. search (needs, copies))
-    (λ c. search (needs, copies))
-    (λ c. search (needs, copies))
-    (λ c. search (needs, copies)))
+    (λ c. (zero-le, refl, copy-none _ _ _))
+    (λ c. copy-read _ _ _ _ _ (c .before .before .before .before .before .pre) _ _ (c .before .before .loop .inv) (c .before .loop-test .taken))
+    (λ c κs. copy-input _ _ _ _ _ (c .before .before .before .before .before .pre) _ _ (c .before .before .loop .inv) (c .before .loop-test .taken))
+    (λ c κs. copy-turn _ _ _ _ _ (c .before .before .before .before .before .before .pre) _ _ (c .before .before .before .loop .inv) (c .before .before .loop-test .taken))
+    (λ c. copy-put _ _ _ _ _ (c .before .before .before .before .before .before .before .before .pre) _ _ (c .before .before .before .before .before .loop .inv) (c .before .before .before .before .loop-test .taken))
+    (λ c κs. copy-place _ _ _ _ _ (c .before .before .before .before .before .before .before .before .pre) _ _ (c .before .before .before .before .before .loop .inv) (c .before .before .before .before .loop-test .taken))
+    (λ c. turn-fits (c .before .before .before .before .before .before .before .loop-test .taken) (c .before .before .before .before .before .before .before .before .before .before .before .fits .n))
+    (λ c. turn-less (c .before .before .before .before .before .before .before .loop-test .taken))
+    (λ c. copy-next _ _ _ _ _ (c .before .before .before .before .before .before .before .before .before .before .before .pre) _ _ (c .before .before .before .before .before .before .before .before .loop .inv) (c .before .before .before .before .before .before .before .loop-test .taken) _ _ _ (c .before .before .before .before .before .input-at .ensures) (c .before .before .before .before .translate .ensures) (c .before .before .put-input .kept .0) (c .before .before .put-input .ensures))
+    (λ c. c .before .loop .inv .1)
+    (λ c. copy-done _ _ _ _ _ (c .before .before .before .before .pre) _ _ (c .before .loop .inv) (c .loop-test .left)))

@@ -1,11 +1,11 @@
-use borrow.Author.Needs.{needs}
-use Prim.Native.Nat.{_≤_, _-_}
-use mathlib.Core.Path.{_≡_}
+use Prim.Native.Nat.{_≤_, _-_, zero-le}
+use mathlib.Core.Path.{_≡_, refl}
 use lib.ListN.{length}
 use Rattle.tables.specs.Layout.{cell, trBase}
 use Rattle.tables.specs.Building.{putOutputs}
 use Rattle.remap.specs.Remapping.{outputsBy}
-use Rattle.remap.proofs.Moves.{outs}
+use Rattle.remap.proofs.Turns.{turn-less, turn-fits}
+use Rattle.remap.proofs.Moves.{out-none, out-done, out-read, out-turn, out-place, out-next}
 use Rattle.remap.proofs.remap_outputs.Statement.{statement}
 use Rattle.remap.proofs.remap_outputs.Tie as tie
 
@@ -21,12 +21,12 @@ remap-outputs-spec =
     (tie.spec
     Inv-loop
     μ-loop
-    (λ c. search (needs, outs))
-    (λ c κs. search (needs, outs))
-    (λ c κs. search (needs, outs))
-    (λ c κs. search (needs, outs))
-    (λ c. search (needs, outs))
-    (λ c. search (needs, outs))
-    (λ c. search (needs, outs))
-    (λ c. search (needs, outs))
-    (λ c. search (needs, outs)))
+    (λ c. (zero-le, refl, out-none _ _))
+    (λ c κs. out-read _ _ _ (c .before .before .before .before .before .pre) _ _ (c .before .before .loop .inv) (c .before .loop-test .taken))
+    (λ c κs. out-turn _ _ _ (c .before .before .before .before .before .before .pre) _ _ (c .before .before .before .loop .inv) (c .before .before .loop-test .taken))
+    (λ c κs. out-place _ _ _ (c .before .before .before .before .before .before .before .before .pre) _ _ (c .before .before .before .before .before .loop .inv) (c .before .before .before .before .loop-test .taken))
+    (λ c. turn-fits (c .before .before .before .before .before .before .before .loop-test .taken) (c .before .before .before .before .before .before .before .before .before .before .before .fits .o))
+    (λ c. turn-less (c .before .before .before .before .before .before .before .loop-test .taken))
+    (λ c. out-next _ _ _ (c .before .before .before .before .before .before .before .before .before .before .before .pre) _ _ (c .before .before .before .before .before .before .before .before .loop .inv) (c .before .before .before .before .before .before .before .loop-test .taken) _ _ _ (c .before .before .before .before .before .output-at .ensures) (c .before .before .before .before .translate .ensures) (c .before .before .put-output .kept .0) (c .before .before .put-output .ensures))
+    (λ c. c .before .loop .inv .1)
+    (λ c. out-done _ _ _ (c .before .before .before .before .pre) _ _ (c .before .loop .inv) (c .loop-test .left)))
