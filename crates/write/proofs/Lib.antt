@@ -1,3 +1,4 @@
+pub mod Turns
 pub mod Stored
 pub mod Sizes
 pub mod Writes

@@ -4,11 +4,12 @@ use mathlib.Core.Logic.{_≢_}
 use mathlib.Core.Bool.{Bool, true, false, cond, _&&_}
 use mathlib.Core.List.{List, [], _∷_, _++_, append-assoc}
 use Prim.Native.Nat.{ℕ, zero, suc, _+_, _-_, _*_, _/_, _%_, _^_, _≤_, _<_}
+use native.Mathlib.Nat.{le-antisymm}
 use native.Mathlib.Omega.{arith}
 use native.Mathlib.Numerals.{add-one}
-use lib.ListN.{length, getD, set, length-append}
+use lib.ListN.{length, set, length-set, length-append}
 use lib.Dec.{leb}
-use borrow.Author.Tests.{le-leb, lt-leb}
+use borrow.Author.Tests.{le-leb, lt-leb, leb-true}
 use mir.Val.{Fits}
 use mir.Syntax.{w32, w64}
 use Rattle.answers.specs.declared.Answer.the-variants.{Accepted, Refused}
@@ -33,7 +34,17 @@ use Rattle.write.proofs.Sizes.{table-plain, table-lut, length-table, re
 pub node-held : (l : List ℕ) (c : Counts) (v : ℕ) → Held l c → v < c .nodes → Node l v
 node-held l c v H h = record { long = H .long; few = omega (arith, nodes-few l c H); ends = H .ends v h; known = kind-known l c H v h }
 
+-- what reading a node asks
+pub node-asked : (l : List ℕ) (v : ℕ) → Node l v → (v < 512) × (netSize ≤ length l)
+node-asked l v N = (N .few, N .long)
+
 module _ (l : List ℕ) (v n k : ℕ) (e : n ≡ countAt l v) (q : k ≡ kindAt l v) where
+  pub len-fits3 : Node l v → Fits w64 (n + 3)
+  len-fits3 N = record { fits = omega (arith, N .ends) }
+
+  pub len-fits1 : Node l v → Fits w64 (n + 1)
+  len-fits1 N = record { fits = omega (arith, N .ends) }
+
   pub len-lut : k ≡ 14 → n + 3 ≡ length (gateWords (gateAt l v))
   len-lut t = omega (arith, length-record l v, length-table l v (sym q ∙ t))
 
@@ -45,23 +56,23 @@ module _ (l : List ℕ) (v n k : ℕ) (e : n ≡ countAt l v) (q : k ≡ kindAt 
 pub len-none : (l : List ℕ) → 0 ≡ length (gatesWords (nodesOf l 0))
 len-none l = ap length (sym (words-none l))
 
-module _ (l : List ℕ) (c : Counts) (H : Held l c) (v n : ℕ) (e : n ≡ length (gatesWords (nodesOf l v))) where
+module _ (l : List ℕ) (c : Counts) (H : Held l c) (v n : ℕ) (I : (v ≤ c .nodes) × (n ≡ length (gatesWords (nodesOf l v)))) where
   module _ (h : v < c .nodes) (m : ℕ) (k : m ≡ length (gateWords (gateAt l v))) where
-    pub len-next : n + m ≡ length (gatesWords (nodesOf l (v + 1)))
-    len-next = rw (add-one v) (omega (arith, length-next l v))
+    pub len-next : (v + 1 ≤ c .nodes) × (n + m ≡ length (gatesWords (nodesOf l (v + 1))))
+    len-next = (omega arith, rw (add-one v) (omega (arith, length-next l v, I .1)))
 
     pub len-fits : Fits w64 (n + m)
-    len-fits = record { fits = omega (arith, length-next l v, words-few l c H (suc v) h) }
+    len-fits = record { fits = omega (arith, length-next l v, words-few l c H (suc v) h, I .1) }
 
-  module _ (h : c .nodes ≤ v) (k : v ≤ c .nodes) where
-    all-words : n ≡ length (gatesWords (nodesOf l (c .nodes)))
-    all-words = let z : v ≡ c .nodes = omega arith in rw (← z) e
+    pub len-count : Fits w64 (v + 1)
+    len-count = record { fits = omega (arith, nodes-few l c H) }
 
+  module _ (h : c .nodes ≤ v) where
     pub len-all : 4 * (n + c .outs + 4) ≡ length (imageOf (networkOf l c))
-    len-all = rw (length-image l c, all-words)
+    len-all = let z : v ≡ c .nodes = le-antisymm (I .0) h in rw (length-image l c, ← z, I .1)
 
     pub len-few : n ≤ 3584
-    len-few = omega (arith, words-few l c H v k)
+    len-few = omega (arith, words-few l c H v (I .0), I .1)
 
     pub len-add : Fits w64 (n + c .outs)
     len-add = record { fits = omega (arith, len-few, outs-few l c H) }
@@ -72,19 +83,64 @@ module _ (l : List ℕ) (c : Counts) (H : Held l c) (v n : ℕ) (e : n ≡ lengt
     pub len-mul : Fits w64 (4 * (n + c .outs + 4))
     len-mul = record { fits = omega (arith, len-few, outs-few l c H) }
 
-pub ruleset lens = (node-held, len-lut, len-plain, len-none, len-next, len-fits, len-all, len-add, len-add4, len-mul)
-
 -- ---- write_inputs and write_outputs
 
-pub ins-next : (l : List ℕ) (first : ℕ) (b : List ℕ) (at j : ℕ) (b′ : List ℕ) → b′ ≡ putWords b at (insFrom l first j) → (s : ℕ) → s ≡ inputAt l (first + j)
-    → (b″ : List ℕ) → b″ ≡ putWord b′ (at + 4 * j) s → b″ ≡ putWords b at (insFrom l first (j + 1))
-unfolding insFrom
-ins-next l first b at j b′ e s k b″ q = rw add-one (q ∙ put-next b at (λ i. inputAt l (first + i)) j b′ e s k)
+module _ (l : List ℕ) (first n : ℕ) (b : List ℕ) (at : ℕ) (P : Inputs l first n b at) where
+  pub ins-none : b ≡ putWords b at (insFrom l first 0)
+  unfolding putWords insFrom tab
+  ins-none = refl
 
-pub outs-next : (l b : List ℕ) (at j : ℕ) (b′ : List ℕ) → b′ ≡ putWords b at (outsFrom l j) → (s : ℕ) → s ≡ outputAt l j
-    → (b″ : List ℕ) → b″ ≡ putWord b′ (at + 4 * j) s → b″ ≡ putWords b at (outsFrom l (j + 1))
-unfolding outsFrom
-outs-next l b at j b′ e s k b″ q = rw add-one (q ∙ put-next b at (outputAt l) j b′ e s k)
+  module _ (b′ : List ℕ) (j : ℕ) (I : (j ≤ n) × (length b′ ≡ length b) × (b′ ≡ putWords b at (insFrom l first j))) where
+    pub ins-all : n ≤ j → b′ ≡ putWords b at (insFrom l first n)
+    ins-all h = I .2 ∙ ap (λ (k : ℕ). putWords b at (insFrom l first k)) (le-antisymm (I .0) h)
+
+    module _ (h : j < n) where
+      pub ins-four : Fits w64 (4 * j)
+      ins-four = record { fits = omega (arith, P .inside) }
+
+      pub ins-at : length b < 2 ^ 64 → Fits w64 (at + 4 * j)
+      ins-at f = record { fits = omega (arith, P .room) }
+
+      pub ins-place : Fits w64 (first + j)
+      ins-place = record { fits = omega (arith, P .inside) }
+
+      pub ins-asked : (first + j < 2048) × (netSize ≤ length l)
+      ins-asked = (omega (arith, P .inside), P .long)
+
+      pub ins-room : at + 4 * j + 4 ≤ length b′
+      ins-room = rw (I .1) (omega (arith, P .room))
+
+      pub ins-next : (s : ℕ) → s ≡ inputAt l (first + j) → (b″ : List ℕ) → length b″ ≡ length b′ → b″ ≡ putWord b′ (at + 4 * j) s
+          → (j + 1 ≤ n) × (length b″ ≡ length b) × (b″ ≡ putWords b at (insFrom l first (j + 1)))
+      unfolding insFrom
+      ins-next s k b″ z q = (omega arith, z ∙ I .1, rw add-one (q ∙ put-next b at (λ i. inputAt l (first + i)) j b′ (I .2) s k))
+
+module _ (l : List ℕ) (n : ℕ) (b : List ℕ) (at : ℕ) (P : Outputs l n b at) where
+  pub outs-none : b ≡ putWords b at (outsFrom l 0)
+  unfolding putWords outsFrom tab
+  outs-none = refl
+
+  module _ (b′ : List ℕ) (j : ℕ) (I : (j ≤ n) × (length b′ ≡ length b) × (b′ ≡ putWords b at (outsFrom l j))) where
+    pub outs-all : n ≤ j → b′ ≡ putWords b at (outsFrom l n)
+    outs-all h = I .2 ∙ ap (λ (k : ℕ). putWords b at (outsFrom l k)) (le-antisymm (I .0) h)
+
+    module _ (h : j < n) where
+      pub outs-four : Fits w64 (4 * j)
+      outs-four = record { fits = omega (arith, P .few) }
+
+      pub outs-at : length b < 2 ^ 64 → Fits w64 (at + 4 * j)
+      outs-at f = record { fits = omega (arith, P .room) }
+
+      pub outs-read : (j < 64) × (netSize ≤ length l)
+      outs-read = (omega (arith, P .few), P .long)
+
+      pub outs-room : at + 4 * j + 4 ≤ length b′
+      outs-room = rw (I .1) (omega (arith, P .room))
+
+      pub outs-next : (s : ℕ) → s ≡ outputAt l j → (b″ : List ℕ) → length b″ ≡ length b′ → b″ ≡ putWord b′ (at + 4 * j) s
+          → (j + 1 ≤ n) × (length b″ ≡ length b) × (b″ ≡ putWords b at (outsFrom l (j + 1)))
+      unfolding outsFrom
+      outs-next s k b″ z q = (omega arith, z ∙ I .1, rw add-one (q ∙ put-next b at (outputAt l) j b′ (I .2) s k))
 
 -- ---- write_table and write_gate
 
@@ -93,11 +149,21 @@ module _ (l : List ℕ) (v : ℕ) (out : List ℕ) (at : ℕ) where
   put-plain k q t = rw (table-plain l v (λ p. t (q ∙ p))) (put-none out at)
 
   module _ (k : ℕ) (q : k ≡ kindAt l v) (t : k ≡ 14) where
-    pub low-room : Writes l v (tableWords (gateAt l v)) out at → at + 4 ≤ length out
-    low-room W = omega (arith, W .room, length-table l v (sym q ∙ t))
+    module _ (W : Writes l v (tableWords (gateAt l v)) out at) where
+      table-room : at + 8 ≤ length out
+      table-room = omega (arith, W .room, length-table l v (sym q ∙ t))
 
-    pub high-room : Writes l v (tableWords (gateAt l v)) out at → (out1 : List ℕ) → length out1 ≡ length out → at + 4 + 4 ≤ length out1
-    high-room W out1 s = omega (arith, W .room, length-table l v (sym q ∙ t))
+      pub low-room : at + 4 ≤ length out
+      low-room = omega (arith, table-room)
+
+      pub high-room : (n : ℕ) → n ≡ length out → at + 4 + 4 ≤ n
+      high-room n s = omega (arith, table-room)
+
+      pub high-at : length out < 2 ^ 64 → Fits w64 (at + 4)
+      high-at f = record { fits = omega (arith, table-room) }
+
+      pub table-end : length out < 2 ^ 64 → Fits w64 (at + 8)
+      table-end f = record { fits = omega (arith, table-room) }
 
     pub put-lut : (low high : ℕ) → low ≡ lowAt l v → high ≡ highAt l v → low < 4294967296 → (out1 out2 : List ℕ) → out1 ≡ putWord out at low
         → out2 ≡ putWord out1 (at + 4) high → Put out at (tableWords (gateAt l v)) out2 (at + 8)
@@ -106,13 +172,29 @@ module _ (l : List ℕ) (v : ℕ) (out : List ℕ) (at : ℕ) where
         rw (table-lut l v (sym q ∙ t) (rw (← a) f))
         (record { bytes = e2 ∙ rw (e1, a, z); end = omega arith })
 
-pub ruleset tables = (put-plain, low-room, high-room, put-lut)
-
 module _ (l : List ℕ) (v : ℕ) (out : List ℕ) (at : ℕ) (W : Writes l v (gateWords (gateAt l v)) out at) where
   pub head-room : at + 4 ≤ length out
   head-room = omega (arith, W .room, length-record l v)
 
+  pub head-end : length out < 2 ^ 64 → Fits w64 (at + 4)
+  head-end f = record { fits = omega (arith, head-room) }
+
   module _ (n : ℕ) (e : n ≡ countAt l v) where
+    pub count-word : Fits w32 n
+    count-word = record { fits = omega (arith, W .node .ends) }
+
+    pub count-high : Fits w32 (256 * n)
+    count-high = record { fits = omega (arith, W .node .ends) }
+
+    pub head-word : (k : ℕ) → k ≡ kindAt l v → Fits w32 (k + 256 * n)
+    head-word k q = record { fits = omega (arith, W .node .ends, W .node .known) }
+
+    pub ins-bytes : Fits w64 (4 * n)
+    ins-bytes = record { fits = omega (arith, W .node .ends) }
+
+    pub ins-end : length out < 2 ^ 64 → Fits w64 (at + 4 + 4 * n)
+    ins-end f = record { fits = omega (arith, W .room, length-record l v) }
+
     pub gate-inputs : (first : ℕ) → first ≡ firstAt l v → (out1 : List ℕ) → length out1 ≡ length out → Inputs l first n out1 (at + 4)
     gate-inputs first f out1 s = record {
       long = W .node .long;
@@ -138,8 +220,6 @@ module _ (l : List ℕ) (v : ℕ) (out : List ℕ) (at : ℕ) (W : Writes l v (g
           end = P .end ∙ rw length-append (omega arith);
         })
 
-pub ruleset gates = (head-room, gate-inputs, gate-table, gate-put)
-
 -- ---- write_nodes
 
 pub nodes-none : (l out : List ℕ) → Put out 0 (gatesWords (nodesOf l 0)) out 0
@@ -156,9 +236,33 @@ module _ (l out₀ : List ℕ) (v : ℕ) (out : List ℕ) (at : ℕ) (P : Put ou
   pub nodes-all : (n : ℕ) → n ≤ v → v ≤ n → Put out₀ 0 (gatesWords (nodesOf l n)) out at
   nodes-all n h k = let e : v ≡ n = omega arith in rw (← e) P
 
-pub ruleset nodes = (nodes-none, node-writes, nodes-next, nodes-all)
+pub nodes-count : (l out : List ℕ) (c : Counts) (v : ℕ) (ws : List ℕ) → Room l c ws out → v < c .nodes → Fits w64 (v + 1)
+nodes-count l out c v ws R h = record { fits = omega (arith, nodes-few l c (R .held)) }
 
 -- ---- write_trailer
+
+module _ (c : Counts) (b : List ℕ) (at : ℕ) (T : Trailer c b at) where
+  pub trailer-inputs : Fits w32 (c .inputs)
+  trailer-inputs = record { fits = omega (arith, T .inputs-few) }
+
+  pub trailer-nodes : Fits w32 (c .nodes)
+  trailer-nodes = record { fits = omega (arith, T .nodes-few) }
+
+  pub trailer-outs : Fits w32 (c .outs)
+  trailer-outs = record { fits = omega (arith, T .outs-few) }
+
+  -- the words' places
+  pub trailer-at : (k : ℕ) → leb k 16 ≡ true → Fits w64 (at + k)
+  trailer-at k h = record { fits = omega (arith, T .few, leb-true k 16 h) }
+
+  pub trailer-end : Fits w32 (at + 16)
+  trailer-end = record { fits = omega (arith, T .few) }
+
+  pub trailer-first : at + 4 ≤ length b
+  trailer-first = omega (arith, T .room)
+
+  pub trailer-room : (k n : ℕ) → leb k 12 ≡ true → n ≡ length b → at + k + 4 ≤ n
+  trailer-room k n h e = omega (arith, T .room, leb-true k 12 h)
 
 pub trailer-put : (c : Counts) (b : List ℕ) (at : ℕ) (b1 b2 b3 b4 : List ℕ) → b1 ≡ putWord b at (c .inputs) → b2 ≡ putWord b1 (at + 4) (c .nodes)
     → b3 ≡ putWord b2 (at + 8) (c .outs) → b4 ≡ putWord b3 (at + 12) (at + 16) → b4 ≡ putWords b at (trailerWords c at)
@@ -226,8 +330,6 @@ module _ (l : List ℕ) (c : Counts) (out : List ℕ) (R : Room l c (netWords (n
         let S = put-more out 0 (gs ++ os) out2 (end + 4 * length os) Q tr out3 (rw lo e3) in
         S .bytes ∙ ap (putWords out 0) (sym (net-words l c end (P .end))) ∙ putWords-laid out (netWords (networkOf l c)) (R .room)
 
-pub ruleset images = (records-room, outs-fit, end-fit, outs-asked, trailer-asked, image-laid)
-
 -- ---- write_mapping
 
 module _ (l : List ℕ) (old : ℕ) (map₀ : List ℕ) (M : Mapped l old map₀) where
@@ -235,13 +337,33 @@ module _ (l : List ℕ) (old : ℕ) (map₀ : List ℕ) (M : Mapped l old map₀
   unfolding mappingIn tab
   mapping-none = laid-none map₀
 
-  pub mapping-next : (i : ℕ) (map : List ℕ) → map ≡ laidOver (mappingIn l i) map₀ → i < old → (x : ℕ) → x ≡ cell l trBase i → set map i x ≡ laidOver (mappingIn l (i + 1)) map₀
-  unfolding mappingIn tab
-  mapping-next i map e h x k =
-      let r = M .room in
-      rw (e, k, add-one) (laid-next (tab (cell l trBase) i) map₀ i (cell l trBase i) (length-tab (cell l trBase) i) (omega arith))
+  module _ (map : List ℕ) (i : ℕ) (I : (i ≤ old) × (length map ≡ length map₀) × (map ≡ laidOver (mappingIn l i) map₀)) where
+    pub mapping-all : old ≤ i → map ≡ laidOver (mappingIn l old) map₀
+    mapping-all h = I .2 ∙ ap (λ (k : ℕ). laidOver (mappingIn l k) map₀) (le-antisymm (I .0) h)
+
+    module _ (h : i < old) where
+      pub mapping-read : 4672 + i < length l
+      mapping-read = omega (arith, M .inside)
+
+      pub mapping-place : length map₀ * 4 < 2 ^ 63 → Fits w64 (i * 4)
+      mapping-place f = record { fits = omega (arith, M .room) }
+
+      pub mapping-room : i < length map
+      mapping-room = rw (I .1) (omega (arith, M .room))
+
+      pub mapping-next : (x : ℕ) → x ≡ cell l trBase i
+          → (i + 1 ≤ old) × (length (set map i x) ≡ length map₀) × (set map i x ≡ laidOver (mappingIn l (i + 1)) map₀)
+      unfolding mappingIn tab
+      mapping-next x k = (
+        omega arith,
+        length-set map i x ∙ I .1,
+        rw (I .2, k, add-one) (laid-next (tab (cell l trBase) i) map₀ i (cell l trBase i) (length-tab (cell l trBase) i) (omega (arith, M .room))),
+      )
 
 -- ---- write
+
+pub mapped-room : (l : List ℕ) (c : Counts) (old : ℕ) (map : List ℕ) → HeldMapped l c old → old ≤ length map → Mapped l old map
+mapped-room l c old map M k = record { inside = M .inside; room = k }
 
 module _ (l : List ℕ) (c : Counts) (out : List ℕ) (n : ℕ) (e : n ≡ length (imageOf (networkOf l c))) where
   pub write-short : length out < n → Answered (inRoom (length out) 0 (written (imageOf (networkOf l c)) [])) out (Refused 13) out
@@ -277,13 +399,8 @@ module _ (l : List ℕ) (c : Counts) (out : List ℕ) (n : ℕ) (e : n ≡ lengt
           let z = lt-leb (length (mappingIn l old)) (length map) (rw length-mapping k) in
           record { first = record { answer = rw (fits, z); result = rw (fits, z) }; second-is = rw (fits, z) }
 
-      pub mapped-room : old ≤ length map → Mapped l old map
-      mapped-room k = record { inside = M .inside; room = k }
-
       pub mapped-done : old ≤ length map → (out′ map′ : List ℕ) → out′ ≡ laidOver (imageOf (networkOf l c)) out → map′ ≡ laidOver (mappingIn l old) map
           → Answered2 (inRoom (length out) (length map) (written (imageOf (networkOf l c)) (mappingIn l old))) out map (Accepted n) out′ map′
       mapped-done k out′ map′ p q =
           let z = le-leb (length (mappingIn l old)) (length map) (rw length-mapping k) in
           record { first = record { answer = rw (fits, z, e); result = rw (fits, z) p }; second-is = rw (fits, z) q }
-
-pub ruleset writes = (write-short, write-done, write-room, mapped-short, map-short, mapped-room, mapped-done)

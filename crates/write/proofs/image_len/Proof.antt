@@ -1,10 +1,10 @@
-use Prim.Native.Nat.{_≤_, _-_}
+use Prim.Native.Nat.{_≤_, _-_, zero-le}
 use mathlib.Core.Path.{_≡_}
 use lib.ListN.{length}
-use borrow.Author.Needs.{needs}
 use Rattle.model.specs.Image.{gatesWords}
 use Rattle.tables.specs.Layout.{nodesOf}
-use Rattle.write.proofs.Writes.{lens}
+use Rattle.write.proofs.Turns.{turn-less}
+use Rattle.write.proofs.Writes.{node-held, len-none, len-next, len-fits, len-count, len-all, len-add, len-add4, len-mul}
 use Rattle.write.proofs.image_len.Statement.{statement}
 use Rattle.write.proofs.image_len.Tie as tie
 
@@ -20,13 +20,13 @@ image-len-spec =
     (tie.spec
     Inv-loop
     μ-loop
-    (λ c. search (needs, lens))
-    (λ c κs. search (needs, lens))
-    (λ c. search (needs, lens))
-    (λ c. search (needs, lens))
-    (λ c. search (needs, lens))
-    (λ c. search (needs, lens))
-    (λ c. search (needs, lens))
-    (λ c. search (needs, lens))
-    (λ c. search (needs, lens))
-    (λ c. search (needs, lens)))
+    (λ c. (zero-le, len-none _))
+    (λ c κs. node-held _ _ _ (c .before .before .before .pre) (c .loop-test .taken))
+    (λ c. len-fits _ _ (c .before .before .before .before .pre) _ _ (c .before .before .loop .inv) (c .before .loop-test .taken) _ (c .record-len .ensures))
+    (λ c. len-count _ _ (c .before .before .before .before .pre) _ _ (c .before .before .loop .inv) (c .before .loop-test .taken) _ (c .record-len .ensures))
+    (λ c. turn-less (c .before .loop-test .taken))
+    (λ c. len-next _ _ (c .before .before .before .before .pre) _ _ (c .before .before .loop .inv) (c .before .loop-test .taken) _ (c .record-len .ensures))
+    (λ c. len-add _ _ (c .before .before .before .before .pre) _ _ (c .before .before .loop .inv) (c .before .loop-test .left))
+    (λ c. len-add4 _ _ (c .before .before .before .before .pre) _ _ (c .before .before .loop .inv) (c .before .loop-test .left))
+    (λ c. len-mul _ _ (c .before .before .before .before .pre) _ _ (c .before .before .loop .inv) (c .before .loop-test .left))
+    (λ c. len-all _ _ (c .before .before .before .before .pre) _ _ (c .before .before .loop .inv) (c .before .loop-test .left)))

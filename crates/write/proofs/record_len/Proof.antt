@@ -1,5 +1,4 @@
-use Rattle.write.proofs.Writes.{lens}
-use borrow.Author.Needs.{needs}
+use Rattle.write.proofs.Writes.{node-asked, len-fits3, len-fits1, len-lut, len-plain}
 use Rattle.write.proofs.record_len.Statement.{statement}
 use Rattle.write.proofs.record_len.Tie as tie
 
@@ -7,9 +6,9 @@ pub record-len-spec : {M : Type 1} → statement M
 record-len-spec =
     tie.close
     (tie.spec
-    (λ c κs. search needs)
-    (λ c κs. search needs)
-    (λ c. search needs)
-    (λ c. search needs)
-    (λ c. search (needs, lens))
-    (λ c. search (needs, lens)))
+    (λ c κs. node-asked _ _ (c .before .pre))
+    (λ c κs. node-asked _ _ (c .before .before .pre))
+    (λ c. len-fits3 _ _ _ _ (c .before .before .count-at .ensures) (c .before .kind-at .ensures) (c .before .before .before .before .pre))
+    (λ c. len-fits1 _ _ _ _ (c .before .before .count-at .ensures) (c .before .kind-at .ensures) (c .before .before .before .before .pre))
+    (λ c. len-lut _ _ _ _ (c .before .before .count-at .ensures) (c .before .kind-at .ensures) (c .if1 .taken))
+    (λ c. len-plain _ _ _ _ (c .before .before .count-at .ensures) (c .before .kind-at .ensures) (c .if1 .left)))

@@ -1,11 +1,9 @@
-use Prim.Native.Nat.{_≤_, _-_}
+use Prim.Native.Nat.{_≤_, _-_, zero-le}
 use mathlib.Core.Path.{_≡_, refl}
-use native.Mathlib.Omega.{arith}
 use lib.ListN.{length}
-use borrow.Author.Needs.{needs}
-use Rattle.laws.specs.Lists.{tab}
 use Rattle.write.specs.Writing.{putWords, insFrom}
-use Rattle.write.proofs.Writes.{ins-next}
+use Rattle.write.proofs.Turns.{turn-less, turn-fits}
+use Rattle.write.proofs.Writes.{ins-none, ins-all, ins-four, ins-at, ins-place, ins-asked, ins-room, ins-next}
 use Rattle.write.proofs.write_inputs.Statement.{statement}
 use Rattle.write.proofs.write_inputs.Tie as tie
 
@@ -15,30 +13,20 @@ Inv-loop from first n out₀ at j₀ out j = (j ≤ n) × (length out ≡ length
 abbrev μ-loop : tie.MeasureT-loop
 μ-loop from first n out₀ at j₀ out j = n - j
 
-loop-holds : tie.Need-loop-holds Inv-loop μ-loop
-unfolding putWords insFrom tab
-loop-holds c = (omega arith, refl, refl)
-
-loop-again : tie.Need-loop-again Inv-loop μ-loop
-loop-again c = (omega arith, omega arith, ins-next _ _ _ _ _ _ (c .before .before .before .before .before .before .loop .inv .2) _ (c .before .before .before .input-at .ensures) _ (c .before .before .put-word .ensures))
-
-returns : tie.Need-returns Inv-loop μ-loop
-returns c = let e : c .before .loop .j ≡ c .before .before .before .before .args .n = omega arith in cc
-
 pub write-inputs-spec : {M : Type 1} → statement M
 write-inputs-spec =
     tie.close
     (tie.spec
     Inv-loop
     μ-loop
-    loop-holds
-    (λ c. search (needs, ins-next))
-    (λ c. search (needs, ins-next))
-    (λ c. search (needs, ins-next))
-    (λ c κs. search (needs, ins-next))
-    (λ c κs. search (needs, ins-next))
-    (λ c. search (needs, ins-next))
-    (λ c. search (needs, ins-next))
-    loop-again
-    (λ c. search (needs, ins-next))
-    returns)
+    (λ c. (zero-le, refl, ins-none _ _ _ _ _ (c .before .before .pre)))
+    (λ c. ins-four _ _ _ _ _ (c .before .before .before .before .before .pre) _ _ (c .before .before .loop .inv) (c .before .loop-test .taken))
+    (λ c. ins-at _ _ _ _ _ (c .before .before .before .before .before .pre) _ _ (c .before .before .loop .inv) (c .before .loop-test .taken) (c .before .before .before .before .before .good .1 .1 .1 .0 .0))
+    (λ c. ins-place _ _ _ _ _ (c .before .before .before .before .before .pre) _ _ (c .before .before .loop .inv) (c .before .loop-test .taken))
+    (λ c κs. ins-asked _ _ _ _ _ (c .before .before .before .before .before .pre) _ _ (c .before .before .loop .inv) (c .before .loop-test .taken))
+    (λ c κs. ins-room _ _ _ _ _ (c .before .before .before .before .before .before .pre) _ _ (c .before .before .before .loop .inv) (c .before .before .loop-test .taken))
+    (λ c. turn-fits (c .before .before .before .before .before .loop-test .taken) (c .before .before .before .before .before .before .before .before .before .fits .n))
+    (λ c. turn-less (c .before .before .before .before .before .loop-test .taken))
+    (λ c. ins-next _ _ _ _ _ (c .before .before .before .before .before .before .before .before .before .pre) _ _ (c .before .before .before .before .before .before .loop .inv) (c .before .before .before .before .before .loop-test .taken) _ (c .before .before .before .input-at .ensures) _ (c .before .before .put-word .kept .0) (c .before .before .put-word .ensures))
+    (λ c. c .before .loop .inv .1)
+    (λ c. ins-all _ _ _ _ _ (c .before .before .before .before .pre) _ _ (c .before .loop .inv) (c .loop-test .left)))

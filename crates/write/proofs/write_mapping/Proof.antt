@@ -1,11 +1,10 @@
-use Prim.Native.Nat.{_≤_, _-_}
+use Prim.Native.Nat.{_≤_, _-_, zero-le}
 use mathlib.Core.Path.{_≡_, refl}
-use native.Mathlib.Omega.{arith}
 use lib.ListN.{length}
-use borrow.Author.Needs.{needs}
 use Rattle.model.specs.Answers.{laidOver}
 use Rattle.write.specs.Writing.{mappingIn}
-use Rattle.write.proofs.Writes.{mapping-none, mapping-next}
+use Rattle.write.proofs.Turns.{turn-less, turn-fits}
+use Rattle.write.proofs.Writes.{mapping-none, mapping-all, mapping-read, mapping-place, mapping-room, mapping-next}
 use Rattle.write.proofs.write_mapping.Statement.{statement}
 use Rattle.write.proofs.write_mapping.Tie as tie
 
@@ -15,21 +14,18 @@ Inv-loop from old map₀ i₀ map i = (i ≤ old) × (length map ≡ length map�
 abbrev μ-loop : tie.MeasureT-loop
 μ-loop from old map₀ i₀ map i = old - i
 
-returns : tie.Need-returns Inv-loop μ-loop
-returns c = let e : c .before .loop .i ≡ c .before .before .before .before .args .old = omega arith in cc
-
 pub write-mapping-spec : {M : Type 1} → statement M
 write-mapping-spec =
     tie.close
     (tie.spec
     Inv-loop
     μ-loop
-    (λ c. search (needs, mapping-none, mapping-next))
-    (λ c κs. search (needs, mapping-none, mapping-next))
-    (λ c. search (needs, mapping-none, mapping-next))
-    (λ c. search (needs, mapping-none, mapping-next))
-    (λ c. search (needs, mapping-none, mapping-next))
-    (λ c. search (needs, mapping-none, mapping-next))
-    (λ c. search (needs, mapping-none, mapping-next))
-    (λ c. search (needs, mapping-none, mapping-next))
-    returns)
+    (λ c. (zero-le, refl, mapping-none _ _ _ (c .before .before .pre)))
+    (λ c κs. mapping-read _ _ _ (c .before .before .before .before .pre) _ _ (c .before .loop .inv) (c .loop-test .taken))
+    (λ c. mapping-place _ _ _ (c .before .before .before .before .before .pre) _ _ (c .before .before .loop .inv) (c .before .loop-test .taken) (c .before .before .before .before .before .good .1 .1 .0 .1))
+    (λ c. mapping-room _ _ _ (c .before .before .before .before .before .pre) _ _ (c .before .before .loop .inv) (c .before .loop-test .taken))
+    (λ c. turn-fits (c .before .loop-test .taken) (c .before .before .before .before .before .fits .old))
+    (λ c. turn-less (c .before .loop-test .taken))
+    (λ c. mapping-next _ _ _ (c .before .before .before .before .before .pre) _ _ (c .before .before .loop .inv) (c .before .loop-test .taken) _ (c .word .ensures))
+    (λ c. c .before .loop .inv .1)
+    (λ c. mapping-all _ _ _ (c .before .before .before .before .pre) _ _ (c .before .loop .inv) (c .loop-test .left)))

@@ -1,11 +1,11 @@
-use Prim.Native.Nat.{_≤_, _-_}
-use mathlib.Core.Path.{_≡_}
+use Prim.Native.Nat.{_≤_, _-_, zero-le}
+use mathlib.Core.Path.{_≡_, refl, _∙_}
 use lib.ListN.{length}
-use borrow.Author.Needs.{needs}
 use Rattle.model.specs.Image.{gatesWords}
 use Rattle.tables.specs.Layout.{nodesOf}
 use Rattle.write.specs.Writing.{Put}
-use Rattle.write.proofs.Writes.{nodes}
+use Rattle.write.proofs.Turns.{turn-up, turn-less}
+use Rattle.write.proofs.Writes.{nodes-none, node-writes, nodes-count, nodes-next, nodes-all}
 use Rattle.write.proofs.write_nodes.Statement.{statement}
 use Rattle.write.proofs.write_nodes.Tie as tie
 
@@ -21,10 +21,10 @@ write-nodes-spec =
     (tie.spec
     Inv-loop
     μ-loop
-    (λ c. search (needs, nodes))
-    (λ c κs. search (needs, nodes))
-    (λ c. search (needs, nodes))
-    (λ c. search (needs, nodes))
-    (λ c. search (needs, nodes))
-    (λ c. search (needs, nodes))
-    (λ c. search (needs, nodes)))
+    (λ c. (zero-le, refl, nodes-none _ _))
+    (λ c κs. node-writes _ _ _ _ _ (c .before .before .loop .inv .2) _ (c .before .before .before .before .before .pre) (c .before .loop-test .taken) (c .before .before .loop .inv .1))
+    (λ c. nodes-count _ _ _ _ _ (c .before .before .before .before .before .before .before .before .pre) (c .before .before .before .before .loop-test .taken))
+    (λ c. turn-less (c .before .before .before .before .loop-test .taken))
+    (λ c. (turn-up (c .before .before .before .before .loop-test .taken), c .before .before .write-gate .kept .1 .1 .0 ∙ c .before .before .before .before .before .loop .inv .1, nodes-next _ _ _ _ _ (c .before .before .before .before .before .loop .inv .2) _ _ (c .before .before .write-gate .ensures)))
+    (λ c. c .before .loop .inv .1)
+    (λ c. nodes-all _ _ _ _ _ (c .before .loop .inv .2) _ (c .loop-test .left) (c .before .loop .inv .0)))

@@ -1,11 +1,9 @@
-use Prim.Native.Nat.{_≤_, _-_}
+use Prim.Native.Nat.{_≤_, _-_, zero-le}
 use mathlib.Core.Path.{_≡_, refl}
-use native.Mathlib.Omega.{arith}
 use lib.ListN.{length}
-use borrow.Author.Needs.{needs}
-use Rattle.laws.specs.Lists.{tab}
 use Rattle.write.specs.Writing.{putWords, outsFrom}
-use Rattle.write.proofs.Writes.{outs-next}
+use Rattle.write.proofs.Turns.{turn-less, turn-fits}
+use Rattle.write.proofs.Writes.{outs-none, outs-all, outs-four, outs-at, outs-read, outs-room, outs-next}
 use Rattle.write.proofs.write_outputs.Statement.{statement}
 use Rattle.write.proofs.write_outputs.Tie as tie
 
@@ -15,26 +13,19 @@ Inv-loop from outs out₀ at j₀ out j = (j ≤ outs) × (length out ≡ length
 abbrev μ-loop : tie.MeasureT-loop
 μ-loop from outs out₀ at j₀ out j = outs - j
 
-loop-holds : tie.Need-loop-holds Inv-loop μ-loop
-unfolding putWords outsFrom tab
-loop-holds c = (omega arith, refl, refl)
-
-returns : tie.Need-returns Inv-loop μ-loop
-returns c = let e : c .before .loop .j ≡ c .before .before .before .before .args .outs = omega arith in cc
-
 pub write-outputs-spec : {M : Type 1} → statement M
 write-outputs-spec =
     tie.close
     (tie.spec
     Inv-loop
     μ-loop
-    loop-holds
-    (λ c. search (needs, outs-next))
-    (λ c. search (needs, outs-next))
-    (λ c κs. search (needs, outs-next))
-    (λ c κs. search (needs, outs-next))
-    (λ c. search (needs, outs-next))
-    (λ c. search (needs, outs-next))
-    (λ c. search (needs, outs-next))
-    (λ c. search (needs, outs-next))
-    returns)
+    (λ c. (zero-le, refl, outs-none _ _ _ _ (c .before .before .pre)))
+    (λ c. outs-four _ _ _ _ (c .before .before .before .before .before .pre) _ _ (c .before .before .loop .inv) (c .before .loop-test .taken))
+    (λ c. outs-at _ _ _ _ (c .before .before .before .before .before .pre) _ _ (c .before .before .loop .inv) (c .before .loop-test .taken) (c .before .before .before .before .before .good .1 .1 .0 .0))
+    (λ c κs. outs-read _ _ _ _ (c .before .before .before .before .before .pre) _ _ (c .before .before .loop .inv) (c .before .loop-test .taken))
+    (λ c κs. outs-room _ _ _ _ (c .before .before .before .before .before .before .pre) _ _ (c .before .before .before .loop .inv) (c .before .before .loop-test .taken))
+    (λ c. turn-fits (c .before .before .before .before .before .loop-test .taken) (c .before .before .before .before .before .before .before .before .before .fits .outs))
+    (λ c. turn-less (c .before .before .before .before .before .loop-test .taken))
+    (λ c. outs-next _ _ _ _ (c .before .before .before .before .before .before .before .before .before .pre) _ _ (c .before .before .before .before .before .before .loop .inv) (c .before .before .before .before .before .loop-test .taken) _ (c .before .before .before .output-at .ensures) _ (c .before .before .put-word .kept .0) (c .before .before .put-word .ensures))
+    (λ c. c .before .loop .inv .1)
+    (λ c. outs-all _ _ _ _ (c .before .before .before .before .pre) _ _ (c .before .loop .inv) (c .loop-test .left)))
