@@ -2,6 +2,7 @@
 use Prim.Native.Nat.{suc, ℕ, _+_, _*_, _<_, _^_, _≤_}
 use mathlib.Core.Path.{ap, refl, _∙_, _≡_}
 use mathlib.Core.List.{List, [], _++_, _∷_}
+use native.Mathlib.Nat.{le-antisymm}
 use native.Mathlib.Omega.{arith}
 use native.Mathlib.Numerals.{add-one}
 use mir.Syntax.{w32, w64}
@@ -39,7 +40,13 @@ module _ (from l₀ l : List ℕ) (f at n j : ℕ) (inv : Copying from l₀ l f 
     copy-write-fits = record { fits = omega (arith, C .room) }
 
     pub copy-long : netSize ≤ length l
-    copy-long = omega (arith, C .long, inv .same)
+    copy-long = rw (inv .same) (C .long)
+
+    pub copy-input : (f + j < 2048) × (netSize ≤ length from)
+    copy-input = (copy-read, C .source)
+
+    pub copy-place : (at + j < 2048) × (netSize ≤ length l)
+    copy-place = (copy-write, copy-long)
 
   pub copy-step : (s : ℕ) (m : List ℕ) → j < n → s ≡ inputAt from (f + j) → m ≡ putInput l (at + j) s → length m ≡ length l → Copying from l₀ m f at n (j + 1)
   unfolding inputsFrom
@@ -50,15 +57,20 @@ module _ (from l₀ l : List ℕ) (f at n j : ℕ) (inv : Copying from l₀ l f 
   }
 
   pub copy-end : n ≤ j → l ≡ putInputs l₀ at (inputsFrom from f) n
-  copy-end h = let a = inv .upto in let e : j ≡ n = omega arith in inv .words ∙ ap (putInputs l₀ at (inputsFrom from f)) e
-
-pub ruleset copies = (copy-start, copy-read, copy-read-fits, copy-write, copy-write-fits, copy-long, copy-step, copy-end)
+  copy-end h = inv .words ∙ ap (putInputs l₀ at (inputsFrom from f)) (le-antisymm (inv .upto) h)
 
 -- ---- copy_gate
 
 module _ (from l : List ℕ) (v at : ℕ) (P : Putting from l v at) where
   pub gate-copies : (n f : ℕ) → n ≡ countAt from v → f ≡ firstAt from v → Copies from l f at n
   gate-copies n f en ef = record { source = P .source; long = P .long; ends = omega (arith, P .ends); room = omega (arith, P .room) }
+
+  -- what reading the node asks, and writing it
+  pub gate-read : (v < 512) × (netSize ≤ length from)
+  gate-read = (P .few, P .source)
+
+  pub gate-room : (n : ℕ) → n ≡ length l → (v < 512) × (netSize ≤ n)
+  gate-room n e = (P .few, rw e (P .long))
 
   pub gate-at : Fits w32 at
   gate-at = record { fits = omega (arith, P .room) }
@@ -70,8 +82,6 @@ module _ (from l : List ℕ) (v at : ℕ) (P : Putting from l v at) where
       → m ≡ putInputs l at (inputsFrom from f) n → o ≡ putGate m v k at n → q ≡ putTable o v lo hi → q ≡ putCopy from l v at
   unfolding putCopy putNode
   gate-done n f k lo hi m o q en ef ek el eh em eo eq = eq ∙ rw (eo, em, en, ef, ek, el, eh)
-
-pub ruleset gateCopies = (gate-copies, gate-at, gate-count, gate-done)
 
 -- the gate that is put is the gate that is read
 is-copy : (from : List ℕ) (v : ℕ) → record { kind = kindAt from v; ins = tab (inputsFrom from (firstAt from v)) (countAt from v); table = lowAt from v + 2 ^ 32 * highAt from v } ≡ gateAt from v
@@ -101,8 +111,12 @@ unfolding putOutputs
 outs-start from l m = record { upto = omega arith; same = refl; words = refl }
 
 module _ (from l₀ l : List ℕ) (m j : ℕ) (inv : Outs from l₀ l m j) where
-  pub outs-long : netSize ≤ length l₀ → netSize ≤ length l
-  outs-long h = omega (arith, inv .same)
+  module _ (P : (m ≤ 64) × (netSize ≤ length from) × (netSize ≤ length l₀)) (h : j < m) where
+    pub outs-read : (j < 64) × (netSize ≤ length from)
+    outs-read = (omega (arith, P .0), P .1)
+
+    pub outs-write : (j < 64) × (netSize ≤ length l)
+    outs-write = (omega (arith, P .0), rw (inv .same) (P .2))
 
   pub outs-next : (s : ℕ) (o : List ℕ) → j < m → s ≡ outputAt from j → o ≡ putOutput l j s → length o ≡ length l → Outs from l₀ o m (j + 1)
   outs-next s o h es eo len = record {
@@ -112,6 +126,4 @@ module _ (from l₀ l : List ℕ) (m j : ℕ) (inv : Outs from l₀ l m j) where
   }
 
   pub outs-end : m ≤ j → l ≡ putOutputs l₀ (outputAt from) m
-  outs-end h = let a = inv .upto in let e : j ≡ m = omega arith in inv .words ∙ ap (putOutputs l₀ (outputAt from)) e
-
-pub ruleset outputs = (outs-start, outs-long, outs-next, outs-end)
+  outs-end h = inv .words ∙ ap (putOutputs l₀ (outputAt from)) (le-antisymm (inv .upto) h)

@@ -1,6 +1,6 @@
 use Prim.Native.Nat.{_-_}
-use borrow.Author.Needs.{needs}
-use Rattle.copying.proofs.Copied.{Outs, outputs}
+use Rattle.copying.proofs.Turns.{turn-less, turn-fits}
+use Rattle.copying.proofs.Copied.{Outs, outs-start, outs-read, outs-write, outs-next, outs-end}
 use Rattle.copying.proofs.copy_outputs.Statement.{statement}
 use Rattle.copying.proofs.copy_outputs.Tie as tie
 
@@ -16,11 +16,11 @@ copy-outputs-spec =
     (tie.spec
     Inv-loop
     μ-loop
-    (λ c. search (needs, outputs))
-    (λ c κs. search (needs, outputs))
-    (λ c κs. search (needs, outputs))
-    (λ c. search (needs, outputs))
-    (λ c. search (needs, outputs))
-    (λ c. search (needs, outputs))
-    (λ c. search (needs, outputs))
-    (λ c. search (needs, outputs)))
+    (λ c. outs-start _ _ _)
+    (λ c κs. outs-read _ _ _ _ _ (c .before .before .loop .inv) (c .before .before .before .before .before .pre) (c .before .loop-test .taken))
+    (λ c κs. outs-write _ _ _ _ _ (c .before .before .before .loop .inv) (c .before .before .before .before .before .before .pre) (c .before .before .loop-test .taken))
+    (λ c. turn-fits (c .before .before .before .before .before .loop-test .taken) (c .before .before .before .before .before .before .before .before .before .fits .m))
+    (λ c. turn-less (c .before .before .before .before .before .loop-test .taken))
+    (λ c. outs-next _ _ _ _ _ (c .before .before .before .before .before .before .loop .inv) _ _ (c .before .before .before .before .before .loop-test .taken) (c .before .before .before .output-at .ensures) (c .before .before .put-output .ensures) (c .before .before .put-output .kept .0))
+    (λ c. c .before .loop .inv .same)
+    (λ c. outs-end _ _ _ _ _ (c .before .loop .inv) (c .loop-test .left)))
