@@ -1,11 +1,11 @@
-use Prim.Native.Nat.{ℕ, _≤_, _-_, _+_}
+use Prim.Native.Nat.{ℕ, _≤_, _-_, zero-le}
 use mathlib.Core.Path.{_≡_, refl}
-use native.Mathlib.Numerals.{add-one}
 use native.Mathlib.Omega.{arith}
 use lib.ListN.{length}
 use Rattle.model.specs.Image.{words}
 use Rattle.tables.specs.Building.{putInputs}
 use Rattle.load.specs.Loading.{wordFrom}
+use Rattle.load.proofs.Copying.{turn-less, inputs-none, inputs-word, inputs-place, inputs-room, inputs-count, inputs-next, inputs-end}
 use Rattle.load.proofs.body.load_inputs.Statement.{statement}
 use Rattle.load.proofs.body.load_inputs.Tie as tie
 
@@ -16,36 +16,34 @@ abbrev μ-loop : tie.MeasureT-loop
 μ-loop body at to₀ first n j₀ to j = n - j
 
 loop-holds : tie.Need-loop-holds Inv-loop μ-loop
-unfolding putInputs
-loop-holds c = (omega arith, refl, refl)
+loop-holds c = (zero-le, refl, inputs-none _ _ _ _)
 
 add-nth : tie.Need-add-nth Inv-loop μ-loop
 add-nth c = omega arith
 
 nth-requires : tie.Need-nth-requires Inv-loop μ-loop
-nth-requires c κs = omega arith
+nth-requires c κs = inputs-word _ _ _ _ _ (c .before .before .before .before .pre) _ _ (c .before .loop .inv) (c .loop-test .taken)
 
 add-put-input : tie.Need-add-put-input Inv-loop μ-loop
-add-put-input c = omega arith
+add-put-input c = inputs-place _ _ _ _ _ (c .before .before .before .before .before .before .pre) _ _ (c .before .before .before .loop .inv) (c .before .before .loop-test .taken)
 
 put-input-requires : tie.Need-put-input-requires Inv-loop μ-loop
-put-input-requires c κs = omega arith
+put-input-requires c κs = inputs-room _ _ _ _ _ (c .before .before .before .before .before .before .pre) _ _ (c .before .before .before .loop .inv) (c .before .before .loop-test .taken)
 
 add-j : tie.Need-add-j Inv-loop μ-loop
-add-j c = omega arith
+add-j c = inputs-count _ _ _ _ _ (c .before .before .before .before .before .before .before .before .before .pre) _ _ (c .before .before .before .before .before .before .loop .inv) (c .before .before .before .before .before .loop-test .taken)
 
 loop-less : tie.Need-loop-less Inv-loop μ-loop
-loop-less c = omega arith
+loop-less c = turn-less (c .before .before .before .before .before .loop-test .taken)
 
 loop-again : tie.Need-loop-again Inv-loop μ-loop
-unfolding putInputs wordFrom
-loop-again c = (omega arith, omega arith, rw add-one (cc))
+loop-again c = inputs-next _ _ _ _ _ (c .before .before .before .before .before .before .before .before .before .pre) _ _ (c .before .before .before .before .before .before .loop .inv) (c .before .before .before .before .before .loop-test .taken) _ _ (c .before .before .before .before .nth .ensures) (c .before .before .put-input .kept .0) (c .before .before .put-input .ensures)
 
 same-length : tie.Need-same-length Inv-loop μ-loop
-same-length c = omega arith
+same-length c = c .before .loop .inv .1
 
 returns : tie.Need-returns Inv-loop μ-loop
-returns c = let e : c .before .loop .j ≡ c .before .before .before .before .args .n = omega arith in cc
+returns c = inputs-end _ _ _ _ _ (c .before .before .before .before .pre) _ _ (c .before .loop .inv) (c .loop-test .left)
 
 pub load-inputs-spec : {M : Type 1} → statement M
 load-inputs-spec =

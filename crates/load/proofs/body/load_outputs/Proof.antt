@@ -1,11 +1,11 @@
-use Prim.Native.Nat.{ℕ, _≤_, _-_, _+_}
+use Prim.Native.Nat.{ℕ, _≤_, _-_, zero-le}
 use mathlib.Core.Path.{_≡_, refl}
-use native.Mathlib.Numerals.{add-one}
 use native.Mathlib.Omega.{arith}
 use lib.ListN.{length}
 use Rattle.model.specs.Image.{words}
 use Rattle.tables.specs.Building.{putOutputs}
 use Rattle.load.specs.Loading.{wordFrom}
+use Rattle.load.proofs.Copying.{turn-less, outputs-none, outputs-word, outputs-room, outputs-count, outputs-next, outputs-end}
 use Rattle.load.proofs.body.load_outputs.Statement.{statement}
 use Rattle.load.proofs.body.load_outputs.Tie as tie
 
@@ -16,33 +16,31 @@ abbrev μ-loop : tie.MeasureT-loop
 μ-loop body at to₀ outs j₀ to j = outs - j
 
 loop-holds : tie.Need-loop-holds Inv-loop μ-loop
-unfolding putOutputs
-loop-holds c = (omega arith, refl, refl)
+loop-holds c = (zero-le, refl, outputs-none _ _ _)
 
 add-nth : tie.Need-add-nth Inv-loop μ-loop
 add-nth c = omega arith
 
 nth-requires : tie.Need-nth-requires Inv-loop μ-loop
-nth-requires c κs = omega arith
+nth-requires c κs = outputs-word _ _ _ _ (c .before .before .before .before .pre) _ _ (c .before .loop .inv) (c .loop-test .taken)
 
 put-output-requires : tie.Need-put-output-requires Inv-loop μ-loop
-put-output-requires c κs = omega arith
+put-output-requires c κs = outputs-room _ _ _ _ (c .before .before .before .before .before .before .pre) _ _ (c .before .before .before .loop .inv) (c .before .before .loop-test .taken)
 
 add-j : tie.Need-add-j Inv-loop μ-loop
-add-j c = omega arith
+add-j c = outputs-count _ _ _ _ (c .before .before .before .before .before .before .before .before .before .pre) _ _ (c .before .before .before .before .before .before .loop .inv) (c .before .before .before .before .before .loop-test .taken)
 
 loop-less : tie.Need-loop-less Inv-loop μ-loop
-loop-less c = omega arith
+loop-less c = turn-less (c .before .before .before .before .before .loop-test .taken)
 
 loop-again : tie.Need-loop-again Inv-loop μ-loop
-unfolding putOutputs wordFrom
-loop-again c = (omega arith, omega arith, rw add-one (cc))
+loop-again c = outputs-next _ _ _ _ (c .before .before .before .before .before .before .before .before .before .pre) _ _ (c .before .before .before .before .before .before .loop .inv) (c .before .before .before .before .before .loop-test .taken) _ _ (c .before .before .before .before .nth .ensures) (c .before .before .put-output .kept .0) (c .before .before .put-output .ensures)
 
 same-length : tie.Need-same-length Inv-loop μ-loop
-same-length c = omega arith
+same-length c = c .before .loop .inv .1
 
 returns : tie.Need-returns Inv-loop μ-loop
-returns c = let e : c .before .loop .j ≡ c .before .before .before .before .args .outs = omega arith in cc
+returns c = outputs-end _ _ _ _ (c .before .before .before .before .pre) _ _ (c .before .loop .inv) (c .loop-test .left)
 
 pub load-outputs-spec : {M : Type 1} → statement M
 load-outputs-spec =
