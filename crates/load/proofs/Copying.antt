@@ -13,8 +13,12 @@ use Rattle.tables.specs.Layout.{netSize, putInput, putOutput}
 use Rattle.tables.specs.Building.{putInputs, putOutputs}
 use Rattle.load.specs.Loading.{wordFrom, Copies, Outputs}
 
-pub turn-less : {n j : ℕ} → j < n → n - (j + 1) < n - j
-turn-less h = omega arith
+module _ {n j : ℕ} (h : j < n) where
+  pub turn-less : n - (j + 1) < n - j
+  turn-less = omega arith
+
+  pub turn-within : j + 1 ≤ n
+  turn-within = omega arith
 
 -- ---- the inputs
 
@@ -30,6 +34,9 @@ module _ (b : List ℕ) (at : ℕ) (l : List ℕ) (first : ℕ) where
     module _ (h : j < n) where
       pub inputs-word : at + j < length b / 4
       inputs-word = omega (arith, P .inside)
+
+      pub inputs-at : length b < 18446744073709551616 → Fits w64 (at + j)
+      inputs-at z = record { fits = omega (arith, z, inputs-word) }
 
       pub inputs-place : Fits w64 (first + j)
       inputs-place = record { fits = omega (arith, P .room) }
@@ -66,6 +73,9 @@ module _ (b : List ℕ) (at : ℕ) (l : List ℕ) where
     module _ (h : j < n) where
       pub outputs-word : at + j < length b / 4
       outputs-word = omega (arith, P .inside)
+
+      pub outputs-at : length b < 18446744073709551616 → Fits w64 (at + j)
+      outputs-at z = record { fits = omega (arith, z, outputs-word) }
 
       pub outputs-room : (j < 64) × (netSize ≤ length m)
       outputs-room = (omega (arith, P .few), rw (I .1) (P .long))

@@ -6,6 +6,8 @@ use mathlib.Core.List.{List, [], _∷_, _++_}
 use Prim.Native.Nat.{ℕ, zero, suc, _+_, _-_, _*_, _/_, _%_, _^_, _≤_, _<_}
 use native.Mathlib.Omega.{arith}
 use native.Mathlib.Numerals.{add-one}
+use mir.Val.{Fits as FitsIn}
+use mir.Syntax.{w32, w64}
 use lib.ListN.{length, getD, take, drop, length-drop}
 use lib.Seq.{getD-drop, length-take-le}
 use lib.Dec.{eqb}
@@ -58,6 +60,19 @@ module _ (b : List ℕ) (at h : ℕ) (l : List ℕ) (v : ℕ) (H : Headed b at h
     pub low-inside : at + 1 + n < length b / 4
     low-inside = omega (arith, high-inside)
 
+    module _ (z : length b < 18446744073709551616) where
+      pub table-one : FitsIn w64 (at + 1)
+      table-one = record { fits = omega (arith, z, high-inside) }
+
+      pub table-low : FitsIn w64 (at + 1 + n)
+      table-low = record { fits = omega (arith, z, high-inside) }
+
+      pub table-two : FitsIn w64 (at + 2)
+      table-two = record { fits = omega (arith, z, high-inside) }
+
+      pub table-high : FitsIn w64 (at + 2 + n)
+      table-high = record { fits = omega (arith, z, high-inside) }
+
     pub table-some : (low high : ℕ) → low ≡ getD (words b) (at + 1 + n) 0 → high ≡ getD (words b) (at + 2 + n) 0
         → (l′ : List ℕ) → l′ ≡ putTable l v low high → Tabled b at l v l′ 2
     unfolding lowIn highIn
@@ -83,6 +98,22 @@ module _ (b : List ℕ) (p : Place) (l : List ℕ) (v : ℕ) (F : Fits b p l v) 
         inside = omega (arith, F .inside, count-lt-size (words b) (p .at), count-read);
         room = omega (arith, F .room, count-read);
       }
+
+      module _ (z : length b < 18446744073709551616) where
+        pub gate-one : FitsIn w64 (p .at + 1)
+        gate-one = record { fits = omega (arith, z, gate-inside) }
+
+        pub gate-behind : FitsIn w64 (p .at + 1 + n)
+        gate-behind = record { fits = omega (arith, z, gate-copies .inside) }
+
+        pub gate-ends : (l2 l3 : List ℕ) (x : ℕ) → Tabled b (p .at) l2 v l3 x → FitsIn w64 (p .at + 1 + n + x)
+        gate-ends l2 l3 x T = record { fits = omega (arith, z, gate-copies .inside, T .few) }
+
+      pub gate-free : FitsIn w64 (p .first + n)
+      gate-free = record { fits = omega (arith, gate-copies .room) }
+
+      pub gate-first : FitsIn w32 (p .first)
+      gate-first = record { fits = omega (arith, gate-copies .room) }
 
       pub gate-placed : (l1 l2 l3 : List ℕ) (x : ℕ) → l1 ≡ putInputs l (p .first) (wordFrom (words b) (p .at + 1)) n
           → l2 ≡ putGate l1 v (h % 256) (p .first) (h / 256) → Tabled b (p .at) l2 v l3 x
@@ -124,6 +155,9 @@ module _ (b l₀ : List ℕ) (n : ℕ) (R : Records b l₀ n) (l : List ℕ) (v 
       inside = rw (L .next) (omega (arith, R .inside, record-inside v (words b) n h));
       room = rw (L .next, L .free) (omega (arith, R .room, record-room v (words b) n h inside));
     }
+
+    pub loading-count : FitsIn w64 (v + 1)
+    loading-count = record { fits = omega (arith, R .few) }
 
     pub loading-next : (l′ : List ℕ) (r : Place) → Placed b p l v l′ r → Loading b l′ (v + 1) r
     unfolding putRecord
@@ -196,4 +230,4 @@ module _ (b l : List ℕ) (c : Counts) (A : Loadable b l c) where
         (nodesOf-putOutputs l1 (wordFrom ws end) (c .nodes) (fanin (gatesFrom (c .nodes) ws 0)) (N .packed) (c .outs) ∙ N .nodes)
         (outputsOf-putOutputs l1 (wordFrom ws end) (c .outs) outs-few (N .packed .long) ∙ tab-words ws end (c .outs) outs-inside ∙ rw (N .end)))
 
-pub ruleset loads = (table-none, low-inside, high-inside, table-some, gate-inside, gate-headed, gate-copies, gate-placed, loading-none, loading-fits, loading-next, loading-end, load-records, load-outputs, load-holds)
+pub ruleset loads = (load-records, load-outputs, load-holds)
