@@ -9,6 +9,8 @@ use native.Mathlib.Decide.{ℕ-discrete}
 use lib.ListN.{getD, length, length-append, length-set, set}
 use lib.Seq.{ext-getD, getD-set-other, getD-set-same}
 use borrow.Author.Tests.{eq-eqb, ne-eqb}
+use mir.Val.{Fits}
+use mir.Syntax.{w32, w64}
 use Rattle.factoring.specs.Turned.{Joined, carried, joinedAt, joinedTo, putPairs}
 use Rattle.laws.specs.Lists.{tab}
 use Rattle.model.specs.Sharing.{Pair, joinRound, roundLeft, roundPairs}
@@ -144,12 +146,36 @@ module _ (l m : List ℕ) (f v h j : ℕ) (inv : Paired l m f v h j) where
   pub pairs-end : h ≤ j → m ≡ joinedTo l f v h
   pairs-end b = let a = inv .upto in let q : j ≡ h = omega arith in inv .words ∙ ap (joinedTo l f v) q
 
+-- ---- join_two
+
+module _ (z f v j : ℕ) (P : (areaSize ≤ z) × (f + 2 * j + 1 < 2048) × (v + j < 512)) where
+  pub two-double : Fits w64 (2 * j)
+  two-double = record { fits = omega (arith, P .1) }
+
+  pub two-place : Fits w64 (f + 2 * j)
+  two-place = record { fits = omega (arith, P .1) }
+
+  pub two-behind : Fits w64 (f + 2 * j + 1)
+  two-behind = record { fits = omega (arith, P .1) }
+
+  pub two-node : Fits w64 (v + j)
+  two-node = record { fits = omega (arith, P .2) }
+
+  pub two-sum : Fits w64 (f + j)
+  two-sum = record { fits = omega (arith, P .1) }
+
+  pub two-first : (f + 2 * j < 2048) × (areaSize ≤ z)
+  two-first = (omega (arith, P .1), P .0)
+
+  pub two-sig : (y : ℕ) → y ≡ z → (f + j < 2048) × (areaSize ≤ y)
+  two-sig y e = (omega (arith, P .1), rw e (P .0))
+
 pub two-done : (l m o : List ℕ) (f v j a b z : ℕ) → a ≡ sigAt l (f + 2 * j) → b ≡ sigAt l (f + 2 * j + 1) → m ≡ putPair l (v + j) a b → z ≡ fromVar (v + j)
     → o ≡ putSig m (f + j) z → o ≡ joinedAt l f v j
 unfolding joinedAt
 two-done l m o f v j a b z ea eb em ez eo = rw (← ea, ← eb, ← em, ← ez) eo
 
-pub ruleset joins = (two-done, pairs-start, pairs-step, pairs-end)
+pub ruleset joins = (pairs-start, pairs-step, pairs-end)
 
 -- ---- an odd last one
 
@@ -225,7 +251,22 @@ pub carry-one : (l o : List ℕ) (f m h s : ℕ) → m ≢ 2 * h → s ≡ sigAt
 unfolding carried
 carry-one l o f m h s d es eo = rw (ne-eqb m (2 * h) d, ← es) eo
 
-pub ruleset carries = (carry-none, carry-one)
+module _ (z f m h : ℕ) (P : (areaSize ≤ z) × (f + m ≤ 2048) × (2 * h ≤ m)) where
+  pub carry-double : Fits w64 (2 * h)
+  carry-double = record { fits = omega (arith, P .1, P .2) }
+
+  pub carry-place : Fits w64 (f + 2 * h)
+  carry-place = record { fits = omega (arith, P .1, P .2) }
+
+  pub carry-sum : Fits w64 (f + h)
+  carry-sum = record { fits = omega (arith, P .1, P .2) }
+
+  module _ (d : m ≢ 2 * h) where
+    pub carry-last : (f + 2 * h < 2048) × (areaSize ≤ z)
+    carry-last = (omega (arith, P .1, P .2, d), P .0)
+
+    pub carry-to : (f + h < 2048) × (areaSize ≤ z)
+    carry-to = (omega (arith, P .1, P .2, d), P .0)
 
 -- ---- join_round
 
@@ -355,21 +396,29 @@ module _ (l : List ℕ) (g n k i : ℕ) (h : Ready l g n k (k + leftAt l i / 2))
       built-round)
 
   -- the code
+  pub round-gate : (y : ℕ) → y ≡ length l → (i < 512) × (areaSize ≤ y)
+  round-gate y e = (omega (arith, h .laid .few), rw e (h .laid .long))
+
+  pub round-node : Fits w64 (n + k)
+  round-node = record { fits = omega (arith, nodes) }
+
   module _ (f m : ℕ) (ef : f ≡ startAt l i) (em : m ≡ leftAt l i) where
-    pub round-place : f + 2 * (m / 2) ≤ 2048
-    round-place = omega (arith, place)
+    pub round-joins : (areaSize ≤ length l) × (f + 2 * (m / 2) ≤ 2048) × (n + k + m / 2 ≤ 512)
+    round-joins = (h .laid .long, omega (arith, place), rw em nodes)
 
-    pub round-nodes : n + k + m / 2 ≤ 512
-    round-nodes = rw em nodes
+    pub round-carries : (y : ℕ) → y ≡ length l → (areaSize ≤ y) × (f + m ≤ 2048) × (2 * (m / 2) ≤ m)
+    round-carries y e = (rw e (h .laid .long), omega (arith, place), omega arith)
 
-    pub round-all : f + m ≤ 2048
-    round-all = omega (arith, place)
+    pub round-less : m / 2 ≤ m
+    round-less = omega arith
+
+    pub round-word : Fits w32 (m - m / 2)
+    round-word = record { fits = omega (arith, place) }
+
+    pub round-count : Fits w64 (k + m / 2)
+    round-count = record { fits = omega (arith, round-joins .2) }
 
     module _ (m1 m2 : List ℕ) (e1 : m1 ≡ joinedTo l f (n + k) (m / 2)) where
-      pub round-long : areaSize ≤ length m1
-      unfolding joinedTo
-      round-long = rw (e1, length-putList, length-putPairs) (h .laid .long)
-
       pub round-done : (m3 : List ℕ) → m2 ≡ carried m1 f m (m / 2) → m3 ≡ putLeft m2 i (m - m / 2) → Joined l m3 g n k i (k + m / 2)
       unfolding setList
       round-done m3 e2 e3 =
@@ -388,5 +437,3 @@ module _ (l : List ℕ) (g n k i : ℕ) (h : Ready l g n k (k + leftAt l i / 2))
             });
             state = rw q round-state;
           }
-
-pub ruleset roundings = (round-place, round-nodes, round-all, round-long, round-done)

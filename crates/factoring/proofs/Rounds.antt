@@ -9,7 +9,7 @@ use lib.ListN.{getD, length, length-append}
 use lib.Seq.{getD-set-same}
 use Rattle.factoring.specs.Turned.{Joined, Went}
 use Rattle.model.specs.Sharing.{State, joinGate, joinGates, joinRound, roundLeft, roundPairs, rounds}
-use Rattle.pairs.specs.Lists.{leftAt, listAt, listsOf}
+use Rattle.pairs.specs.Lists.{areaSize, leftAt, listAt, listsOf}
 use Rattle.pairs.specs.States.{Placed, Ready, stateOf}
 use Rattle.factoring.proofs.Turns.{Walked, all-end, all-full, all-grows, all-next, all-start, length-built, placed-here, placed-on, went-full, went-here}
 use Rattle.laws.proofs.Tabs.{length-tab}
@@ -86,6 +86,9 @@ pub record Rounded (l₀ l : List ℕ) (g n k room i t : ℕ) : Type 0 where
 pub round-start : (l : List ℕ) (g n k room i : ℕ) → Ready l g n k room → i < g → Rounded l l g n k room i k
 round-start l g n k room i h v = record { below = v; same = refl; ready = h; placed = placed-here l g (h .laid); rest = refl }
 
+pub round-gate : (l₀ l : List ℕ) (g n k room i t : ℕ) → Rounded l₀ l g n k room i t → (i < 512) × (areaSize ≤ length l)
+round-gate l₀ l g n k room i t inv = (omega (arith, inv .below, inv .ready .laid .few), inv .ready .laid .long)
+
 module _ (l₀ l : List ℕ) (g n k room i t : ℕ) (inv : Rounded l₀ l g n k room i t) (x : ℕ) (ex : x ≡ leftAt l i) where
   len : length (getD (stateOf l g n t .lists) i []) ≡ leftAt l i
   len = rw (gate-state l g n t i (inv .below)) (length-list l i)
@@ -122,8 +125,6 @@ module _ (l₀ l : List ℕ) (g n k room i t : ℕ) (inv : Rounded l₀ l g n k 
 
         pub round-less : room - r < room - t
         round-less = omega (arith, inv .ready .more, j .count)
-
-pub ruleset roundses = (round-start, round-end, round-full, round-ready, round-next, round-less)
 
 -- ---- join_gates
 

@@ -15,7 +15,7 @@ use borrow.Author.Tests.{eqb-false, eqb-true, le-leb, leb-false, leb-true, lt-le
 use Rattle.factoring.specs.Turned.{Went, binaryAt, fitted}
 use Rattle.laws.specs.Lists.{tab}
 use Rattle.model.specs.Sharing.{State, Top, allPairs, binaries, consumeBinaryGates, findBestPair, onTwo, replacePair}
-use Rattle.pairs.specs.Lists.{Laid, front, leftAt, listAt, listsOf, sigAt, startAt}
+use Rattle.pairs.specs.Lists.{Laid, areaSize, front, leftAt, listAt, listsOf, sigAt, startAt}
 use Rattle.best_pair.specs.Search.{bestOf}
 use Rattle.pairs.specs.States.{Placed, Ready, Replaced, stateOf}
 use Rattle.laws.proofs.Choices.{by-bool}
@@ -176,6 +176,12 @@ two-not s (a ∷ []) h = refl
 two-not s (a ∷ b ∷ []) h = absurd (h refl)
 two-not s (a ∷ b ∷ c ∷ l) h = refl
 
+pub at-gate : (l : List ℕ) (g n k room i : ℕ) → Ready l g n k room → i < g → (i < 512) × (areaSize ≤ length l)
+at-gate l g n k room i h v = (omega (arith, h .laid .few), h .laid .long)
+
+pub at-count : (l : List ℕ) (g n k room : ℕ) → Ready l g n k room → k < room → Fits w64 (k + 1)
+at-count l g n k room h q = record { fits = omega (arith, h .nodes) }
+
 module _ (l : List ℕ) (g n k room i : ℕ) (h : Ready l g n k room) (v : i < g) (x : ℕ) (ex : x ≡ leftAt l i) where
   pub at-stay : x ≢ 2 → Went l l g n room (To k) (binaryAt (stateOf l g n k) i)
   unfolding binaryAt
@@ -193,11 +199,11 @@ module _ (l : List ℕ) (g n k room i : ℕ) (h : Ready l g n k room) (v : i < g
     at-two = rw (getD-state l g n k i v, list-two)
 
     module _ (f : ℕ) (e : f ≡ startAt l i) where
-      pub at-first : f < 2048
-      at-first = omega (arith, h .laid .ends i v)
+      pub at-first : (f < 2048) × (areaSize ≤ length l)
+      at-first = (omega (arith, h .laid .ends i v), h .laid .long)
 
-      pub at-second : f + 1 < 2048
-      at-second = omega (arith, h .laid .ends i v)
+      pub at-second : (f + 1 < 2048) × (areaSize ≤ length l)
+      at-second = (omega (arith, h .laid .ends i v), h .laid .long)
 
       pub at-fits : Fits w64 (f + 1)
       at-fits = record { fits = omega (arith, h .laid .ends i v) }
@@ -212,8 +218,6 @@ module _ (l : List ℕ) (g n k room i : ℕ) (h : Ready l g n k room) (v : i < g
     at-done f a b m r ef ea eb p =
         went-here l m g n (k + 1) room _ (p .placed) (omega arith)
         (p .state ∙ rw at-two (rw (ea, eb, ef)))
-
-pub ruleset ats = (at-stay, at-first, at-second, at-fits, at-full, at-done, ready-one)
 
 -- ---- consume_twos, consume_binary_gates
 

@@ -20,10 +20,12 @@ fn join_two(area: &mut [u32], f: usize, v: usize, j: usize)
     requires { ⌜ (areaSize ≤ length (now area)) × (f + 2 * j + 1 < 2048) × (v + j < 512) ⌝ }
     ensures { λ _. ⌜ now (area .exit) ≡ joinedAt (now (area .entry)) f v j ⌝ }
 {
-    let a = sig_at(area, f + 2 * j);
-    let b = sig_at(area, f + 2 * j + 1);
-    put_pair(area, v + j, a, b);
-    put_sig(area, f + j, node_word(v + j));
+    let k = f + 2 * j;
+    let w = v + j;
+    let a = sig_at(area, k);
+    let b = sig_at(area, k + 1);
+    put_pair(area, w, a, b);
+    put_sig(area, f + j, node_word(w));
 }
 
 // Joins 2 h signals from place f on, two by two: new nodes from v on.
@@ -43,10 +45,11 @@ fn carry(area: &mut [u32], f: usize, m: usize, h: usize)
     requires { ⌜ (areaSize ≤ length (now area)) × (f + m ≤ 2048) × (2 * h ≤ m) ⌝ }
     ensures { λ _. ⌜ now (area .exit) ≡ carried (now (area .entry)) f m h ⌝ }
 {
-    if m == 2 * h {
+    let e = 2 * h;
+    if m == e {
         return;
     }
-    let s = sig_at(area, f + 2 * h);
+    let s = sig_at(area, f + e);
     put_sig(area, f + h, s);
 }
 
