@@ -8,14 +8,14 @@ use native.Mathlib.Numerals.{add-one}
 use mathlib.Core.List.{List, [], _∷_, _++_, append-assoc}
 use lib.ListN.{length}
 use mir.Val.{Fits}
-use mir.Syntax.{w32}
+use mir.Syntax.{w32, w64}
 use borrow.Author.Tests.{not-true, not-false}
 use Rattle.laws.specs.Lists.{tab}
 use Rattle.model.specs.Signal.{isVar}
 use Rattle.model.specs.Network.{vars}
 use Rattle.shape.specs.Forms.{Below}
 use Rattle.shape.proofs.Wires.{vars-one-node, vars-one-other, vars-append}
-use Rattle.tables.specs.Layout.{span, inputAt, outputAt, store, markBase, stackBase}
+use Rattle.tables.specs.Layout.{netSize, span, inputAt, outputAt, store, markBase, stackBase}
 use Rattle.tables.proofs.Places.{length-store, cell-store, cell-store-other}
 use Rattle.remap.specs.Tables.{stackOf, insFrom}
 use Rattle.remap.proofs.Tabled.{stackOf-same}
@@ -55,6 +55,9 @@ module _ (s : ℕ) (t : Bool) (e : t ≡ isVar s) (l : List ℕ) (sp : ℕ) (C :
 pub ruleset pushes = (push-none, push-some, push-fits, push-done)
 
 -- ---- a row of signals
+
+pub one-less : {j : ℕ} → 0 < j → j - 1 < j
+one-less h = omega arith
 
 module _ (g : ℕ → ℕ) (l : List ℕ) (n sp : ℕ) where
   row-start : span ≤ length l → Pushing g l n sp l sp n
@@ -105,13 +108,18 @@ module _ (from l : List ℕ) (f n sp : ℕ) (C : PushIns from l f n sp) where
     pub ins-turn : (s : ℕ) → 0 < j → s ≡ inputAt from (f + (j - 1)) → CanPush e s r
     ins-turn s h q = rw q (row-turn (λ k. inputAt from (f + k)) l n sp e r j P h (C .deep) (C .named))
 
+    module _ (h : 0 < j) where
+      pub ins-fits : Fits w64 (f + (j - 1))
+      ins-fits = record { fits = omega (arith, C .fits, P .low) }
+
+      pub ins-place : (f + (j - 1) < 2048) × (netSize ≤ length from)
+      ins-place = (omega (arith, C .fits, P .low), C .long)
+
     pub ins-next : (e′ : List ℕ) (r′ s : ℕ) → 0 < j → s ≡ inputAt from (f + (j - 1)) → Pushed e e′ (vars (s ∷ [])) r r′ 1 → Pushing (λ k. inputAt from (f + k)) l n sp e′ r′ (j - 1)
     ins-next e′ r′ s h q Q = row-next (λ k. inputAt from (f + k)) l n sp e e′ r r′ j P h (rw q at Q)
 
     pub ins-end : j ≤ 0 → Pushed l e (vars (insFrom from f n)) sp r n
     ins-end h = row-end (λ k. inputAt from (f + k)) l n sp e r j P h
-
-pub ruleset inrows = (ins-start, ins-turn, ins-next, ins-end)
 
 -- ---- outputs
 
@@ -123,10 +131,11 @@ module _ (from l : List ℕ) (o : ℕ) (C : PushOuts from l o) where
     pub outs-turn : (s : ℕ) → 0 < j → s ≡ outputAt from (j - 1) → CanPush e s r
     outs-turn s h q = rw q (row-turn (outputAt from) l o 0 e r j P h (let few = C .few in omega arith) (C .named))
 
+    pub outs-place : 0 < j → (j - 1 < 64) × (netSize ≤ length from)
+    outs-place h = (omega (arith, C .few, P .low), C .long)
+
     pub outs-next : (e′ : List ℕ) (r′ s : ℕ) → 0 < j → s ≡ outputAt from (j - 1) → Pushed e e′ (vars (s ∷ [])) r r′ 1 → Pushing (outputAt from) l o 0 e′ r′ (j - 1)
     outs-next e′ r′ s h q Q = row-next (outputAt from) l o 0 e e′ r r′ j P h (rw q at Q)
 
     pub outs-end : j ≤ 0 → Pushed l e (vars (tab (outputAt from) o)) 0 r o
     outs-end h = row-end (outputAt from) l o 0 e r j P h
-
-pub ruleset outrows = (outs-start, outs-turn, outs-next, outs-end)

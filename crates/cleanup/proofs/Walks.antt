@@ -8,6 +8,8 @@ use native.Mathlib.Numerals.{add-one}
 use native.Mathlib.Decide.{ℕ-discrete}
 use mathlib.Core.List.{List, [], _∷_, _++_, append-nil}
 use lib.ListN.{length}
+use mir.Val.{Fits}
+use mir.Syntax.{w64}
 use Rattle.laws.specs.Bools.{bit}
 use Rattle.laws.specs.Lists.{tab}
 use Rattle.model.specs.Gate.{size}
@@ -179,8 +181,6 @@ module _ (from l : List ℕ) (c : Counts) (sp : ℕ) (L : Walking from l c sp) w
         marks = λ v p. L .marks v p ∙ ap (λ (w : Walk). bit (w .vis v)) st;
       }
 
-pub ruleset walks = (walk-table, walk-outs, walk-start, walk-end)
-
 -- ---- the order of what is marked
 
 pub keep-start : (from l : List ℕ) (c : Counts) → Marked from l c → Keeping from l c 0 0
@@ -224,10 +224,20 @@ module _ (from l : List ℕ) (c : Counts) (v k : ℕ) (G : Keeping from l c v k)
           few = omega arith;
         }
 
+module _ {n v : ℕ} (h : v < n) where
+  pub turn-less : n - (v + 1) < n - v
+  turn-less = omega arith
+
+  pub turn-within : v + 1 ≤ n
+  turn-within = omega arith
+
+pub keep-count : (from l : List ℕ) (c : Counts) (v k : ℕ) → Keeping from l c v k → v < c .nodes → Fits w64 (v + 1)
+keep-count from l c v k G h = record { fits = omega (arith, G .marked .ok .few) }
+
 pub keep-end : (from l : List ℕ) (c : Counts) (v k : ℕ) → Keeping from l c v k → v ≤ c .nodes → c .nodes ≤ v → Keeping from l c (c .nodes) k
 keep-end from l c v k G a b = let e : v ≡ c .nodes = omega arith in rw e at G
 
-pub ruleset keeps = (keep-start, keep-mark, keep-room, keep-yes, keep-no, keep-end)
+pub ruleset keeps = (keep-mark, keep-room, keep-yes, keep-no)
 
 -- ---- the whole
 
