@@ -103,6 +103,12 @@ pairs-start l f v h = record { upto = omega arith; same = refl; words = refl }
 
 module _ (l m : List ℕ) (f v h j : ℕ) (inv : Paired l m f v h j) where
   module _ (lt : j < h) (small : f + 2 * h ≤ 2048) (nodes : v + h ≤ 512) where
+    pub pairs-two : areaSize ≤ length l → (areaSize ≤ length m) × (f + 2 * j + 1 < 2048) × (v + j < 512)
+    pairs-two z = (rw (inv .same) z, omega (arith, small), omega (arith, nodes))
+
+    pub pairs-count : Fits w64 (j + 1)
+    pairs-count = record { fits = omega (arith, nodes) }
+
     even : length (front l f (2 * j)) ≡ 2 * j
     even = length-front l f (2 * j)
 
@@ -174,8 +180,6 @@ pub two-done : (l m o : List ℕ) (f v j a b z : ℕ) → a ≡ sigAt l (f + 2 *
     → o ≡ putSig m (f + j) z → o ≡ joinedAt l f v j
 unfolding joinedAt
 two-done l m o f v j a b z ea eb em ez eo = rw (← ea, ← eb, ← em, ← ez) eo
-
-pub ruleset joins = (pairs-start, pairs-step, pairs-end)
 
 -- ---- an odd last one
 

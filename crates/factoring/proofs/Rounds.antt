@@ -152,5 +152,3 @@ module _ (l₀ l : List ℕ) (g n k room m i : ℕ) (inv : Walked joinGates l₀
 
   pub gates-end : g ≤ i → Went l₀ l g n room (To m) (joinGates (stateOf l₀ g n k) g)
   gates-end = all-end joinGate joinGates gates-zero gates-suc built-gate l₀ l g n k room m i inv
-
-pub ruleset gateses = (gates-start, gates-next, gates-full, gates-end)

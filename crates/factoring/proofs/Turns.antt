@@ -94,6 +94,12 @@ pub record Walked (all : State → ℕ → State) (l₀ l : List ℕ) (g n k roo
   pub placed : Placed l₀ l g
   pub state : stateOf l g n m ≡ all (stateOf l₀ g n k) i
 
+pub turn-less : {n i : ℕ} → i < n → n - (i + 1) < n - i
+turn-less h = omega arith
+
+pub turn-count : {all : State → ℕ → State} (l₀ l : List ℕ) (g n k room m i : ℕ) → Walked all l₀ l g n k room m i → i < g → Fits w64 (i + 1)
+turn-count l₀ l g n k room m i inv h = record { fits = omega (arith, inv .ready .laid .few) }
+
 module _ (step all : State → ℕ → State) (at-zero : (s : State) → all s 0 ≡ s) (at-suc : (s : State) (i : ℕ) → all s (suc i) ≡ step (all s i) i)
     (grows : (s : State) (i : ℕ) → length (s .built) ≤ length (step s i .built)) where
   more : (s : State) (d i : ℕ) → length (all s i .built) ≤ length (all s (d + i) .built)
@@ -163,8 +169,6 @@ both-min l m g n k a b h r = let p : min a b ≡ a = omega arith in let q : max 
 
 pub both-max : (l m : List ℕ) (g n k a b : ℕ) → b ≤ a → Replaced l m g n k b a → Replaced l m g n k (min a b) (max a b)
 both-max l m g n k a b h r = let p : min a b ≡ b = omega arith in let q : max a b ≡ a = omega arith in rw (p, q) r
-
-pub ruleset bothes = (both-min, both-max)
 
 getD-state : (l : List ℕ) (g n k i : ℕ) → i < g → getD (stateOf l g n k .lists) i [] ≡ listAt l i
 unfolding stateOf listsOf
@@ -246,8 +250,6 @@ module _ (l₀ l : List ℕ) (g n k room m i : ℕ) (inv : Walked binaries l₀ 
   pub twos-end : g ≤ i → Went l₀ l g n room (To m) (binaries (stateOf l₀ g n k) g)
   twos-end = all-end binaryAt binaries twos-zero twos-suc built-binary l₀ l g n k room m i inv
 
-pub ruleset twos = (twos-start, twos-next, twos-full, twos-end)
-
 module _ (l m : List ℕ) (g n k room : ℕ) (r : Built) (w : Went l m g n room r (binaries (stateOf l g n k) g)) where
   pub gates-full : r ≡ Full → Went l m g n room Full (consumeBinaryGates (stateOf l g n k) g)
   unfolding consumeBinaryGates
@@ -258,8 +260,6 @@ module _ (l m : List ℕ) (g n k room : ℕ) (r : Built) (w : Went l m g n room 
   gates-done t e o q x =
       let y : Went m o g n room q (binaries (binaries (stateOf l g n k) g) g) = rw (← (went-state l m g n room r _ w t e)) x in
       record { answer = y .answer; held = λ u. (placed-on l m o g (went-placed l m g n room r _ w t e) (y .held u .0), y .held u .1) }
-
-pub ruleset binary = (ready-next, gates-full, gates-done)
 
 -- ---- consume_pairs
 
@@ -310,5 +310,3 @@ module _ (l₀ l : List ℕ) (g n k room m : ℕ) (inv : Greedy l₀ l g n k roo
       placed = placed-on l₀ l o g (inv .placed) (p .placed);
       rest = rw (p .state) pairs-rest;
     }
-
-pub ruleset greedies = (ready-one, pairs-start, pairs-end, pairs-full, pairs-next)

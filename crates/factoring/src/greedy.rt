@@ -71,10 +71,10 @@ pub fn consume_binary_gates(area: &mut [u32], g: usize, n: usize, k: usize, room
     ensures { λ r. ⌜ Went (now (area .entry)) (now (area .exit)) g n room r (consumeBinaryGates (stateOf (now (area .entry)) g n k) g) ⌝ }
 {
     let r = consume_twos(area, g, n, k, room);
-    match r {
-        Built::To(t) => consume_twos(area, g, n, t, room),
-        Built::Full => Built::Full,
-    }
+    let Built::To(t) = r else {
+        return Built::Full;
+    };
+    consume_twos(area, g, n, t, room)
 }
 
 // While a pair is left, the best one.

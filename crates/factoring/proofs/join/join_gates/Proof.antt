@@ -1,8 +1,8 @@
 use Prim.Native.Nat.{_-_}
-use borrow.Author.Needs.{needs}
+use mathlib.Core.Path.{_∙_}
 use Rattle.model.specs.Sharing.{joinGates}
-use Rattle.factoring.proofs.Rounds.{gateses}
-use Rattle.factoring.proofs.Turns.{Walked}
+use Rattle.factoring.proofs.Rounds.{gates-start, gates-next, gates-full, gates-end}
+use Rattle.factoring.proofs.Turns.{Walked, turn-less, turn-count}
 use Rattle.factoring.proofs.join.join_gates.Statement.{statement}
 use Rattle.factoring.proofs.join.join_gates.Tie as tie
 
@@ -12,20 +12,53 @@ Inv-loop area₀ g n k room m₀ i₀ area m i = Walked joinGates area₀ area g
 abbrev μ-loop : tie.MeasureT-loop
 μ-loop area₀ g n k room m₀ i₀ area m i = g - i
 
+loop-holds : tie.Need-loop-holds Inv-loop μ-loop
+loop-holds c = gates-start _ _ _ _ _ (c .before .pre)
+
+join-gate-requires : tie.Need-join-gate-requires Inv-loop μ-loop
+join-gate-requires c κs = (c .before .before .loop .inv .ready, c .before .loop-test .taken)
+
+enum-known-r : tie.Need-enum-known-r Inv-loop μ-loop
+enum-known-r c = c .match .keys1
+
+enum-told : tie.Need-enum-told Inv-loop μ-loop
+enum-told c = c .match .keys2
+
+same-length : tie.Need-same-length Inv-loop μ-loop
+same-length c = c .before .before .before .before .join-gate .kept .0 ∙ c .before .before .before .before .before .before .before .loop .inv .same
+
+returns : tie.Need-returns Inv-loop μ-loop
+returns c = gates-full _ _ _ _ _ _ _ _ (c .before .before .before .before .before .before .before .loop .inv) _ _ (c .before .before .before .before .join-gate .ensures) (c .before .before .before .before .before .before .loop-test .taken) (c .enum-told .given .1)
+
+add-i : tie.Need-add-i Inv-loop μ-loop
+add-i c = turn-count _ _ _ _ _ _ _ _ (c .before .before .before .before .before .before .before .before .loop .inv) (c .before .before .before .before .before .before .before .loop-test .taken)
+
+loop-less : tie.Need-loop-less Inv-loop μ-loop
+loop-less c = turn-less (c .before .before .before .before .before .before .before .loop-test .taken)
+
+loop-again : tie.Need-loop-again Inv-loop μ-loop
+loop-again c = gates-next _ _ _ _ _ _ _ _ (c .before .before .before .before .before .before .before .before .loop .inv) _ _ (c .before .before .before .before .before .join-gate .ensures) (c .before .before .before .before .before .before .before .loop-test .taken) _ (c .before .r .given .1) (c .before .before .before .before .before .join-gate .kept .0)
+
+same-length-2 : tie.Need-same-length-2 Inv-loop μ-loop
+same-length-2 c = c .before .loop .inv .same
+
+returns-2 : tie.Need-returns-2 Inv-loop μ-loop
+returns-2 c = gates-end _ _ _ _ _ _ _ _ (c .before .loop .inv) (c .loop-test .left)
+
 pub join-gates-spec : {M : Type 1} → statement M
 join-gates-spec =
     tie.close
     (tie.spec
     Inv-loop
     μ-loop
-    (λ c. search (needs, gateses))
-    (λ c κs. search (needs, gateses))
-    (λ c. search (needs, gateses))
-    (λ c. search (needs, gateses))
-    (λ c. search (needs, gateses))
-    (λ c. search (needs, gateses))
-    (λ c. search (needs, gateses))
-    (λ c. search (needs, gateses))
-    (λ c. search (needs, gateses))
-    (λ c. search (needs, gateses))
-    (λ c. search (needs, gateses)))
+    loop-holds
+    join-gate-requires
+    enum-known-r
+    enum-told
+    same-length
+    returns
+    add-i
+    loop-less
+    loop-again
+    same-length-2
+    returns-2)
