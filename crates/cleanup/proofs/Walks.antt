@@ -237,8 +237,6 @@ keep-count from l c v k G h = record { fits = omega (arith, G .marked .ok .few) 
 pub keep-end : (from l : List ℕ) (c : Counts) (v k : ℕ) → Keeping from l c v k → v ≤ c .nodes → c .nodes ≤ v → Keeping from l c (c .nodes) k
 keep-end from l c v k G a b = let e : v ≡ c .nodes = omega arith in rw e at G
 
-pub ruleset keeps = (keep-mark, keep-room, keep-yes, keep-no)
-
 -- ---- the whole
 
 module _ (from l g : List ℕ) (c : Counts) (m : ℕ) (A : Cleanable from l c) (G : Keeping from g c (c .nodes) m) where
