@@ -1,3 +1,4 @@
+-- `consider_both`: each need by its law.
 use borrow.Author.Needs.{needs}
 use Rattle.best_pair.proofs.Tops.{boths}
 use Rattle.best_pair.proofs.consider_both.Statement.{statement}

@@ -1,3 +1,4 @@
+-- `consider_pair`: each need by its law.
 use borrow.Author.Needs.{needs}
 use Rattle.best_pair.proofs.Tops.{considers}
 use Rattle.best_pair.proofs.consider_pair.Statement.{statement}

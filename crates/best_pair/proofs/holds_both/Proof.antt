@@ -1,3 +1,4 @@
+-- `holds_both`: each need by its law.
 use borrow.Author.Needs.{needs}
 use Rattle.best_pair.proofs.Tops.{holds-yes, holdss}
 use Rattle.best_pair.proofs.holds_both.Statement.{statement}

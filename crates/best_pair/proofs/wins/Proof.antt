@@ -1,3 +1,4 @@
+-- `wins`: each need by its law.
 use borrow.Author.Needs.{needs}
 use Rattle.best_pair.proofs.Tops.{wins-5, winss}
 use Rattle.best_pair.proofs.wins.Statement.{statement}

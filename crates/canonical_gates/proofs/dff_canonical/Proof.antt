@@ -1,3 +1,4 @@
+-- `dff_canonical`: each need by its law.
 use Rattle.model.specs.Normal.{dffCanonical}
 use Rattle.canonical_gates.proofs.dff_canonical.Statement.{statement}
 use Rattle.canonical_gates.proofs.dff_canonical.Tie as tie

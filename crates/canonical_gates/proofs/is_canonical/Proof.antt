@@ -1,3 +1,4 @@
+-- `is_canonical`: each need by its law.
 use Rattle.canonical_gates.proofs.Tested.{testeds}
 use borrow.Author.Needs.{needs}
 use Rattle.canonical_gates.proofs.is_canonical.Statement.{statement}

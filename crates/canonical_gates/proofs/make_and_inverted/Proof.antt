@@ -1,3 +1,4 @@
+-- `make_and_inverted`: each need by its law.
 use Rattle.canonical_gates.proofs.Whole.{wholes}
 use borrow.Author.Needs.{needs}
 use Rattle.canonical_gates.proofs.make_and_inverted.Statement.{statement}

@@ -1,3 +1,4 @@
+-- `make_canonical`: each need by its law.
 use Rattle.canonical_gates.proofs.Whole.{wholes}
 use borrow.Author.Needs.{needs}
 use Rattle.canonical_gates.proofs.make_canonical.Statement.{statement}

@@ -1,3 +1,4 @@
+-- `mux_canonical`: each need by its law.
 use Rattle.canonical_gates.proofs.Tested.{mux-tested}
 use borrow.Author.Needs.{needs}
 use Rattle.canonical_gates.proofs.mux_canonical.Statement.{statement}

@@ -1,3 +1,4 @@
+-- `proper`: each need by its law.
 use Rattle.canonical_gates.proofs.Tested.{propers}
 use borrow.Author.Needs.{needs}
 use Rattle.canonical_gates.proofs.proper.Statement.{statement}

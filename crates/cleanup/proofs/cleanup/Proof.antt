@@ -1,3 +1,4 @@
+-- `cleanup`: each need by its law.
 use borrow.Author.Needs.{needs}
 use Rattle.cleanup.proofs.Walks.{cleans}
 use Rattle.cleanup.proofs.cleanup.Statement.{statement}

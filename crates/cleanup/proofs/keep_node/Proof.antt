@@ -1,3 +1,4 @@
+-- `keep_node`: each need by its law.
 use mathlib.Core.Path.{refl}
 use borrow.Author.Needs.{needs}
 use Rattle.cleanup.proofs.Walks.{keep-mark, keep-room, keep-yes, keep-no}

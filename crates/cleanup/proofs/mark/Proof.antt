@@ -1,3 +1,4 @@
+-- `mark`: each need by its law.
 use mathlib.Core.Path.{refl, _∙_}
 use Rattle.cleanup.proofs.Walks.{walk-stack, walk-node, walk-mark, walk-skip, walk-ins, walk-done}
 use Rattle.cleanup.proofs.mark.Statement.{statement}

@@ -1,3 +1,4 @@
+-- `mark_all`: what its loop keeps, and each need by its law.
 use mathlib.Core.Path.{_≡_, refl, _∙_}
 use lib.ListN.{length}
 use Rattle.cleanup.specs.Marking.{Walking, leftOf}

@@ -1,3 +1,4 @@
+-- `push_inputs`: what its loop keeps, and each need by its law.
 use Prim.Native.Nat.{_+_}
 use mathlib.Core.Path.{_≡_, refl, _∙_}
 use lib.ListN.{length}

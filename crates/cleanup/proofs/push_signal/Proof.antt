@@ -1,3 +1,4 @@
+-- `push_signal`: each need by its law.
 use borrow.Author.Needs.{needs}
 use Rattle.cleanup.proofs.Pushes.{pushes}
 use Rattle.cleanup.proofs.push_signal.Statement.{statement}

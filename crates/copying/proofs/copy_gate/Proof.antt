@@ -1,3 +1,4 @@
+-- `copy_gate`: each need by its law.
 use mathlib.Core.Path.{_∙_}
 use Rattle.copying.proofs.Copied.{gate-read, gate-room, gate-copies, gate-at, gate-count, gate-done}
 use Rattle.copying.proofs.copy_gate.Statement.{statement}

@@ -1,3 +1,4 @@
+-- `copy_outputs`: what its loop keeps, and each need by its law.
 use Prim.Native.Nat.{_-_}
 use Rattle.copying.proofs.Turns.{turn-less, turn-fits}
 use Rattle.copying.proofs.Copied.{Outs, outs-start, outs-read, outs-write, outs-next, outs-end}

@@ -1,3 +1,4 @@
+-- `count_deps`: what its loop keeps, and each need by its law.
 use borrow.Author.Needs.{needs}
 use Prim.Native.Nat.{_≤_, _-_}
 use mathlib.Core.Path.{_≡_}

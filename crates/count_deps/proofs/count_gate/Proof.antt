@@ -1,3 +1,4 @@
+-- `count_gate`: each need by its law.
 use borrow.Author.Needs.{needs}
 use Rattle.count_deps.proofs.Countings.{gate}
 use Rattle.count_deps.proofs.count_gate.Statement.{statement}

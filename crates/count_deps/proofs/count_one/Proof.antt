@@ -1,3 +1,4 @@
+-- `count_one`: each need by its law.
 use borrow.Author.Needs.{needs}
 use Rattle.count_deps.proofs.Countings.{ones}
 use Rattle.count_deps.proofs.count_one.Statement.{statement}

@@ -1,3 +1,4 @@
+-- `dedup`: each need by its law.
 use mathlib.Core.Path.{refl}
 use native.Mathlib.Omega.{arith}
 use Rattle.tables.proofs.Holding.{nodes-few, outs-few}

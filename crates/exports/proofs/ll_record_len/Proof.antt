@@ -1,3 +1,4 @@
+-- `ll_record_len`: each need by its law.
 use borrow.Author.Needs.{needs}
 use Rattle.exports.proofs.ll_record_len.Statement.{statement}
 use Rattle.exports.proofs.ll_record_len.Tie as tie

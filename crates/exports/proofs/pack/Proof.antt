@@ -1,3 +1,4 @@
+-- `pack`: each need by its law.
 use Rattle.exports.specs.Packed.{packed}
 use borrow.Author.Needs.{needs}
 use Rattle.exports.proofs.pack.Statement.{statement}

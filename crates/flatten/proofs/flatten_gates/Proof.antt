@@ -1,3 +1,4 @@
+-- `flatten_gates`: each need by its law.
 use Rattle.flatten.proofs.Wholes.{wholes}
 use borrow.Author.Needs.{needs}
 use Rattle.flatten.proofs.flatten_gates.Statement.{statement}

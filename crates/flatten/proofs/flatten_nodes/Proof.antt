@@ -1,3 +1,4 @@
+-- `flatten_nodes`: what its loop keeps, and each need by its law.
 use Prim.Native.Nat.{_-_}
 use borrow.Author.Needs.{needs}
 use Rattle.flatten.proofs.Wholes.{Flattened, flattenings}

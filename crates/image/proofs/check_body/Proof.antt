@@ -1,3 +1,4 @@
+-- `check_body`: each need by its law.
 use Rattle.image.proofs.Bodies.{body-absent, body-broken, body-end, body-many, body-short, body-sound, body-unsorted}
 use borrow.Author.Needs.{needs}
 use Rattle.image.proofs.check_body.Statement.{statement}

@@ -1,3 +1,4 @@
+-- `check_with`: each need by its law.
 use Rattle.image.proofs.Checks.{checks}
 use borrow.Author.Needs.{needs}
 use Rattle.image.proofs.check_with.Statement.{statement}

@@ -1,3 +1,4 @@
+-- `place_of`: each need by its law.
 use Rattle.image.proofs.Places.{place-bytes, place-is, place-none, place-nth, place-refused, place-size, place-skip, place-start, place-sum}
 use borrow.Author.Needs.{needs}
 use Rattle.image.proofs.place_of.Statement.{statement}

@@ -1,3 +1,4 @@
+-- `record_at`: each need by its law.
 use Rattle.image.proofs.Places.{parts}
 use borrow.Author.Needs.{needs}
 use Rattle.image.proofs.record_at.Statement.{statement}

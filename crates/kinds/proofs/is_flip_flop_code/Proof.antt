@@ -1,3 +1,4 @@
+-- `is_flip_flop_code`: each need by its law.
 use borrow.Author.Needs.{needs}
 use Rattle.kinds.proofs.is_flip_flop_code.Statement.{statement}
 use Rattle.kinds.proofs.is_flip_flop_code.Tie as tie

@@ -1,3 +1,4 @@
+-- `listing`: each need by its law.
 use borrow.Author.Needs.{needs}
 use Rattle.listing.proofs.Answering.{answering}
 use Rattle.listing.proofs.listing.Statement.{statement}

@@ -1,3 +1,4 @@
+-- `put_listing`: each need by its law.
 use borrow.Author.Needs.{needs}
 use native.Mathlib.Omega.{arith}
 use Rattle.listing.proofs.Lines.{outputs-held, listing-put}

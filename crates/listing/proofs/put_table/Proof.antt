@@ -1,3 +1,4 @@
+-- `put_table`: each need by its law.
 use borrow.Author.Needs.{needs}
 use Rattle.listing.proofs.Lines.{tables}
 use Rattle.listing.proofs.put_table.Statement.{statement}

@@ -1,3 +1,4 @@
+-- `table`: each need by its law.
 use native.Mathlib.Omega.{arith}
 use borrow.Author.Needs.{needs}
 use Rattle.listing.proofs.table.Statement.{statement}

@@ -1,3 +1,4 @@
+-- `load_sorted`: each need by its law.
 use Rattle.load.proofs.Accepting.{accepts}
 use borrow.Author.Needs.{needs}
 use Rattle.load.proofs.load_sorted.Statement.{statement}

@@ -1,3 +1,4 @@
+-- `copy_within`: what its loop keeps, and each need by its law.
 use Prim.Native.Nat.{_-_}
 use borrow.Author.Needs.{needs}
 use Rattle.copying.proofs.Copied.{Copying}

@@ -1,3 +1,4 @@
+-- `merge_dependencies`: what its loop keeps, and each need by its law.
 use Prim.Native.Nat.{_-_}
 use native.Mathlib.Omega.{arith}
 use borrow.Author.Needs.{needs}

@@ -1,3 +1,4 @@
+-- `merge_one`: each need by its law.
 use Rattle.merge_dependencies.proofs.Openings.{ones}
 use borrow.Author.Needs.{needs}
 use Rattle.merge_dependencies.proofs.merge_one.Statement.{statement}

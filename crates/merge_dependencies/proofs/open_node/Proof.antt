@@ -1,3 +1,4 @@
+-- `open_node`: each need by its law.
 use Rattle.merge_dependencies.proofs.Words.{openNodes}
 use borrow.Author.Needs.{needs}
 use Rattle.merge_dependencies.proofs.open_node.Statement.{statement}

@@ -1,3 +1,4 @@
+-- `opens`: each need by its law.
 use Rattle.merge_dependencies.proofs.Openings.{openings, opens-done}
 use borrow.Author.Needs.{needs}
 use Rattle.merge_dependencies.proofs.opens.Statement.{statement}

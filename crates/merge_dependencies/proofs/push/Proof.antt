@@ -1,3 +1,4 @@
+-- `push`: each need by its law.
 use Rattle.merge_dependencies.proofs.Words.{pushes}
 use borrow.Author.Needs.{needs}
 use Rattle.merge_dependencies.proofs.push.Statement.{statement}

@@ -1,3 +1,4 @@
+-- `mux_plain`: each need by its law.
 use Rattle.mux_gate.proofs.Muxes.{muxes}
 use borrow.Author.Needs.{needs}
 use Rattle.mux_gate.proofs.mux_plain.Statement.{statement}

@@ -1,3 +1,4 @@
+-- `mux_rest`: each need by its law.
 use Rattle.mux_gate.proofs.Muxes.{rests}
 use borrow.Author.Needs.{needs}
 use Rattle.mux_gate.proofs.mux_rest.Statement.{statement}

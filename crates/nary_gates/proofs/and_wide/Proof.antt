@@ -1,3 +1,4 @@
+-- `and_wide`: each need by its law.
 use Rattle.nary_gates.proofs.Wide.{wides}
 use borrow.Author.Needs.{needs}
 use Rattle.nary_gates.proofs.and_wide.Statement.{statement}

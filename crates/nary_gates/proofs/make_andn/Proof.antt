@@ -1,3 +1,4 @@
+-- `make_andn`: each need by its law.
 use Rattle.nary_gates.proofs.Wide.{andns}
 use borrow.Author.Needs.{needs}
 use Rattle.nary_gates.proofs.make_andn.Statement.{statement}

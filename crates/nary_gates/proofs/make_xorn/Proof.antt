@@ -1,3 +1,4 @@
+-- `make_xorn`: each need by its law.
 use Rattle.nary_gates.proofs.Wide.{xorn-all}
 use borrow.Author.Needs.{needs}
 use Rattle.nary_gates.proofs.make_xorn.Statement.{statement}

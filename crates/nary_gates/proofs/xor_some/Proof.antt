@@ -1,3 +1,4 @@
+-- `xor_some`: each need by its law.
 use Rattle.nary_gates.proofs.Wide.{odds}
 use borrow.Author.Needs.{needs}
 use Rattle.nary_gates.proofs.xor_some.Statement.{statement}

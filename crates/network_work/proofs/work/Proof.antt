@@ -1,3 +1,4 @@
+-- `work`: each need by its law.
 use borrow.Author.Needs.{needs}
 use Rattle.network_work.proofs.Choosing.{merge-chosen, cleanup-chosen, sort-chosen}
 use Rattle.network_work.proofs.work.Statement.{statement}

@@ -1,3 +1,4 @@
+-- `print_record`: each need by its law.
 use borrow.Author.Needs.{needs}
 use Rattle.normal_forms.proofs.Facts.{facts}
 use Rattle.normal_forms.proofs.print_record.Statement.{statement}

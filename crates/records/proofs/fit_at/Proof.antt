@@ -1,3 +1,4 @@
+-- `fit_at`: each need by its law.
 use borrow.Author.Needs.{needs}
 use Rattle.records.proofs.Fits.{fit-header, fit-lut, fit-lut-long, fit-past, fit-plain, fit-plain-long, fit-table, lut-count}
 use Rattle.records.proofs.fit_at.Statement.{statement}

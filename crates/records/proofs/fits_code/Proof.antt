@@ -1,3 +1,4 @@
+-- `fits_code`: each need by its law.
 use borrow.Author.Needs.{needs}
 use Rattle.records.proofs.Fits.{code-fits}
 use Rattle.records.proofs.fits_code.Statement.{statement}

@@ -1,3 +1,4 @@
+-- `fits_kind`: each need by its law.
 use borrow.Author.Needs.{needs}
 use Rattle.records.proofs.Fits.{one-buf, six-lut, three-and, three-dff, three-maj, three-mux, three-xor, two-and, two-xor}
 use Rattle.records.proofs.fits_kind.Statement.{statement}

@@ -1,3 +1,4 @@
+-- `header_ok`: each need by its law.
 use borrow.Author.Needs.{needs}
 use Rattle.records.proofs.Fits.{header-fits}
 use Rattle.records.proofs.header_ok.Statement.{statement}

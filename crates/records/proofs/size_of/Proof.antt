@@ -1,3 +1,4 @@
+-- `size_of`: each need by its law.
 use native.Mathlib.Omega.{arith}
 use borrow.Author.Tests.{eq-eqb, ne-eqb}
 use Rattle.records.specs.Layouts.{sizeOf}

@@ -1,3 +1,4 @@
+-- `table_ok`: each need by its law.
 use native.Mathlib.Omega.{arith}
 use Rattle.records.proofs.Fits.{table-low, table-five, table-six, table-high}
 use Rattle.records.proofs.table_ok.Statement.{statement}

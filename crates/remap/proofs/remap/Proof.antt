@@ -1,3 +1,4 @@
+-- `remap`: each need by its law.
 use borrow.Author.Needs.{needs}
 use Rattle.remap.proofs.Whole.{whole}
 use Rattle.remap.proofs.remap.Statement.{statement}

@@ -1,3 +1,4 @@
+-- `remap_gate`: each need by its law.
 use mathlib.Core.Path.{_∙_}
 use Rattle.remap.proofs.Moves.{place-read, place-at, place-room, place-copy, place-count, place-sum, place-done}
 use Rattle.remap.proofs.remap_gate.Statement.{statement}

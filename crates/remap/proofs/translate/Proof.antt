@@ -1,3 +1,4 @@
+-- `translate`: each need by its law.
 use borrow.Author.Needs.{needs}
 use Rattle.remap.proofs.Moves.{map-done}
 use Rattle.remap.proofs.translate.Statement.{statement}

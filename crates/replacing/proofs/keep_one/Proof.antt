@@ -1,3 +1,4 @@
+-- `keep_one`: each need by its law.
 use borrow.Author.Needs.{needs}
 use Rattle.replacing.proofs.Taking.{ones}
 use Rattle.replacing.proofs.keep_one.Statement.{statement}

@@ -1,3 +1,4 @@
+-- `replace_in`: each need by its law.
 use native.Mathlib.Omega.{arith}
 use borrow.Author.Needs.{needs}
 use borrow.Author.Tests.{not-false, not-true}

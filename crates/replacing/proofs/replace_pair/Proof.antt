@@ -1,3 +1,4 @@
+-- `replace_pair`: each need by its law.
 use borrow.Author.Needs.{needs}
 use Rattle.replacing.proofs.Replacings.{swapped}
 use Rattle.replacing.proofs.replace_pair.Statement.{statement}

@@ -1,3 +1,4 @@
+-- `swap_all`: what its loop keeps, and each need by its law.
 use native.Mathlib.Omega.{arith}
 use Prim.Native.Nat.{_-_, _≤_}
 use mathlib.Core.Path.{_≡_}

@@ -1,3 +1,4 @@
+-- `list`: each need by its law.
 use borrow.Author.Needs.{needs}
 use Rattle.share.proofs.Listed.{lists}
 use Rattle.share.proofs.list.Statement.{statement}

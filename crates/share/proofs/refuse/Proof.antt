@@ -1,3 +1,4 @@
+-- `refuse`: each need by its law.
 use borrow.Author.Needs.{needs}
 use native.Mathlib.Omega.{arith}
 use Rattle.share.proofs.Shows.{refused-shown}

@@ -1,3 +1,4 @@
+-- `show`: each need by its law.
 use borrow.Author.Needs.{needs}
 use Rattle.share.proofs.Shows.{shows}
 use Rattle.share.proofs.show.Statement.{statement}

@@ -1,3 +1,4 @@
+-- `pass`: each need by its law.
 use borrow.Author.Needs.{needs}
 use Rattle.sharing_work.proofs.Choosing.{flatten-chosen, factor-chosen, share-chosen}
 use Rattle.sharing_work.proofs.pass.Statement.{statement}

@@ -1,3 +1,4 @@
+-- `work`: each need by its law.
 use borrow.Author.Needs.{needs}
 use Rattle.sharing_work.proofs.Passing.{works}
 use Rattle.sharing_work.proofs.work.Statement.{statement}

@@ -1,3 +1,4 @@
+-- `down_one`: each need by its law.
 use borrow.Author.Needs.{needs}
 use Rattle.stack_search.proofs.Downs.{lower-more, lowers}
 use Rattle.stack_search.proofs.down_one.Statement.{statement}

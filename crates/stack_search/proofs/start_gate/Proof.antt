@@ -1,3 +1,4 @@
+-- `start_gate`: each need by its law.
 use borrow.Author.Needs.{needs}
 use Rattle.stack_search.proofs.Starts.{start-flip, start-skip, start-push}
 use Rattle.stack_search.proofs.start_gate.Statement.{statement}

@@ -1,3 +1,4 @@
+-- `visit`: each need by its law.
 use mathlib.Core.Path.{refl}
 use borrow.Author.Needs.{needs}
 use Rattle.stack_search.proofs.Visits.{visit-stack, visit-node, visit-mark, visit-fits, visit-skip, visit-pos, visit-downs, visit-done}

@@ -1,3 +1,4 @@
+-- `visit_all`: what its loop keeps, and each need by its law.
 use borrow.Author.Needs.{needs}
 use mathlib.Core.Path.{_≡_}
 use lib.ListN.{length}

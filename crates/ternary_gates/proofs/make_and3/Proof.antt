@@ -1,3 +1,4 @@
+-- `make_and3`: each need by its law.
 use Rattle.ternary_gates.proofs.Triples.{and3s}
 use borrow.Author.Needs.{needs}
 use Rattle.ternary_gates.proofs.make_and3.Statement.{statement}

@@ -1,3 +1,4 @@
+-- `make_dff`: each need by its law.
 use Rattle.ternary_gates.proofs.Triples.{dffs}
 use borrow.Author.Needs.{needs}
 use Rattle.ternary_gates.proofs.make_dff.Statement.{statement}

@@ -1,3 +1,4 @@
+-- `make_xor3`: each need by its law.
 use Rattle.ternary_gates.proofs.Triples.{xor3s}
 use borrow.Author.Needs.{needs}
 use Rattle.ternary_gates.proofs.make_xor3.Statement.{statement}

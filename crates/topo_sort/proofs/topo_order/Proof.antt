@@ -1,3 +1,4 @@
+-- `topo_order`: each need by its law.
 use borrow.Author.Needs.{needs}
 use Rattle.topo_sort.proofs.Flipped.{orders}
 use Rattle.topo_sort.proofs.topo_order.Statement.{statement}

@@ -1,3 +1,4 @@
+-- `topo_sort`: each need by its law.
 use borrow.Author.Needs.{needs}
 use Rattle.topo_sort.proofs.Flipped.{sortings}
 use Rattle.topo_sort.proofs.topo_sort.Statement.{statement}

@@ -1,3 +1,4 @@
+-- `most`: each need by its law.
 use borrow.Author.Needs.{needs}
 use Rattle.wiring.proofs.Wires.{mosts}
 use Rattle.wiring.proofs.most.Statement.{statement}

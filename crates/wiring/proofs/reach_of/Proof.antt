@@ -1,3 +1,4 @@
+-- `reach_of`: each need by its law.
 use Rattle.wiring.proofs.Wires.{signs}
 use borrow.Author.Needs.{needs}
 use Rattle.wiring.proofs.reach_of.Statement.{statement}

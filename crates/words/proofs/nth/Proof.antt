@@ -1,3 +1,4 @@
+-- `nth`: each need by its law.
 use borrow.Author.Needs.{needs}
 use native.Mathlib.Omega.{arith}
 use mathlib.Core.Path.{sym, _∙_}

@@ -1,3 +1,4 @@
+-- `put_word`: each need by its law.
 use borrow.Author.Needs.{needs}
 use native.Mathlib.Omega.{arith}
 use lib.ListN.{length-set}

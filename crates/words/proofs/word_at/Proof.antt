@@ -1,3 +1,4 @@
+-- `word_at`: each need by its law.
 use borrow.Author.Needs.{needs}
 use Rattle.model.specs.Image.{wordAt}
 use Rattle.words.proofs.word_at.Statement.{statement}

@@ -1,3 +1,4 @@
+-- `record_len`: each need by its law.
 use Rattle.write.proofs.Writes.{node-asked, len-fits3, len-fits1, len-lut, len-plain}
 use Rattle.write.proofs.record_len.Statement.{statement}
 use Rattle.write.proofs.record_len.Tie as tie

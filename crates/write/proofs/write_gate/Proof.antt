@@ -1,3 +1,4 @@
+-- `write_gate`: each need by its law.
 use mathlib.Core.Path.{_∙_}
 use Rattle.write.proofs.Writes.{node-asked, head-room, head-end, count-word, count-high, head-word, ins-bytes, ins-end, gate-inputs, gate-table, gate-put}
 use Rattle.write.proofs.write_gate.Statement.{statement}

@@ -1,3 +1,4 @@
+-- `write_image`: each need by its law.
 use mathlib.Core.Path.{_∙_}
 use Rattle.write.proofs.Writes.{records-room, outs-fit, end-fit, outs-asked, trailer-asked, image-laid}
 use Rattle.write.proofs.write_image.Statement.{statement}

@@ -1,3 +1,4 @@
+-- `write_mapped`: each need by its law.
 use Rattle.write.proofs.Writes.{write-room, mapped-short, map-short, mapped-room, mapped-done}
 use Rattle.write.proofs.write_mapped.Statement.{statement}
 use Rattle.write.proofs.write_mapped.Tie as tie

@@ -1,3 +1,4 @@
+-- `write_table`: each need by its law.
 use mathlib.Core.Path.{_∙_}
 use Rattle.write.proofs.Writes.{node-asked, put-plain, low-room, high-room, high-at, table-end, put-lut}
 use Rattle.write.proofs.write_table.Statement.{statement}

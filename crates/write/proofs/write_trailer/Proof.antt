@@ -1,3 +1,4 @@
+-- `write_trailer`: each need by its law.
 use mathlib.Core.Path.{refl, _∙_}
 use Rattle.write.proofs.Writes.{trailer-inputs, trailer-nodes, trailer-outs, trailer-at, trailer-end, trailer-first, trailer-room, trailer-put}
 use Rattle.write.proofs.write_trailer.Statement.{statement}

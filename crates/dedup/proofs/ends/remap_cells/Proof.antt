@@ -1,3 +1,4 @@
+-- `remap_cells`: what its loop keeps, and each need by its law.
 use Prim.Native.Nat.{ℕ, _≤_, _-_, zero-le}
 use mathlib.Core.Path.{_≡_, refl}
 use lib.ListN.{length}

@@ -1,3 +1,4 @@
+-- `sweep`: what its loop keeps, and each need by its law.
 use borrow.Author.Needs.{needs}
 use Prim.Native.Nat.{ℕ, _≤_, _-_, zero-le}
 use mathlib.Core.Path.{_≡_, refl, ap, _∙_}

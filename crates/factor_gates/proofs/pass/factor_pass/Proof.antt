@@ -1,3 +1,4 @@
+-- `factor_pass`: each need by its law.
 use borrow.Author.Needs.{needs}
 use Rattle.factor_gates.proofs.Passings.{pass-few, pass-pairs}
 use Rattle.factor_gates.proofs.pass.factor_pass.Statement.{statement}

@@ -1,3 +1,4 @@
+-- `finalize`: each need by its law.
 use borrow.Author.Needs.{needs}
 use Rattle.factor_gates.proofs.Passings.{finals}
 use Rattle.factor_gates.proofs.pass.finalize.Statement.{statement}

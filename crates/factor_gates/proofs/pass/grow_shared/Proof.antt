@@ -1,3 +1,4 @@
+-- `grow_shared`: each need by its law.
 use borrow.Author.Needs.{needs}
 use Rattle.factor_gates.proofs.Passings.{growths, pass-ended, pass-grown, pass-room}
 use Rattle.factor_gates.proofs.pass.grow_shared.Statement.{statement}

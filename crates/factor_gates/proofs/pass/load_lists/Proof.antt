@@ -1,3 +1,4 @@
+-- `load_lists`: each need by its law.
 use borrow.Author.Needs.{needs}
 use Rattle.factor_gates.proofs.Passings.{loads}
 use Rattle.factor_gates.proofs.pass.load_lists.Statement.{statement}

@@ -1,3 +1,4 @@
+-- `run`: each need by its law.
 use borrow.Author.Needs.{needs}
 use Rattle.factor_gates.proofs.Passings.{runs}
 use Rattle.factor_gates.proofs.pass.run.Statement.{statement}

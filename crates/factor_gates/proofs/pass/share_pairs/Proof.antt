@@ -1,3 +1,4 @@
+-- `share_pairs`: each need by its law.
 use borrow.Author.Needs.{needs}
 use Rattle.factor_gates.proofs.Passings.{shares}
 use Rattle.factor_gates.proofs.pass.share_pairs.Statement.{statement}

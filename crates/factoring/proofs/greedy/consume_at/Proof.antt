@@ -1,3 +1,4 @@
+-- `consume_at`: each need by its law.
 use mathlib.Core.Path.{refl}
 use Rattle.factoring.proofs.Turns.{at-gate, at-count, at-stay, at-first, at-second, at-fits, at-full, at-done, ready-one}
 use Rattle.factoring.proofs.greedy.consume_at.Statement.{statement}

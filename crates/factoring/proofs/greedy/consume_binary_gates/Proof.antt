@@ -1,3 +1,4 @@
+-- `consume_binary_gates`: each need by its law.
 use mathlib.Core.Path.{_∙_}
 use Rattle.factoring.proofs.Turns.{ready-next, gates-full, gates-done}
 use Rattle.factoring.proofs.greedy.consume_binary_gates.Statement.{statement}

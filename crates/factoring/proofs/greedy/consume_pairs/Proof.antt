@@ -1,3 +1,4 @@
+-- `consume_pairs`: what its loop keeps, and each need by its law.
 use Prim.Native.Nat.{_-_}
 use mathlib.Core.Path.{_∙_}
 use Rattle.factoring.proofs.Turns.{Greedy, turn-less, at-count, ready-one, pairs-start, pairs-end, pairs-full, pairs-next}

@@ -1,3 +1,4 @@
+-- `replace_both`: each need by its law.
 use Rattle.factoring.proofs.Turns.{both-min, both-max}
 use Rattle.factoring.proofs.greedy.replace_both.Statement.{statement}
 use Rattle.factoring.proofs.greedy.replace_both.Tie as tie

@@ -1,3 +1,4 @@
+-- `carry`: each need by its law.
 use Rattle.factoring.proofs.Joining.{carry-double, carry-none, carry-place, carry-last, carry-sum, carry-to, carry-one}
 use Rattle.factoring.proofs.join.carry.Statement.{statement}
 use Rattle.factoring.proofs.join.carry.Tie as tie

@@ -1,3 +1,4 @@
+-- `join_pairs`: what its loop keeps, and each need by its law.
 use Prim.Native.Nat.{_-_}
 use Rattle.factoring.proofs.Joining.{Paired, pairs-start, pairs-two, pairs-count, pairs-step, pairs-end}
 use Rattle.factoring.proofs.Turns.{turn-less}

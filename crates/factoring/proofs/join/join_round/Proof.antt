@@ -1,3 +1,4 @@
+-- `join_round`: each need by its law.
 use mathlib.Core.Path.{refl, _∙_}
 use Rattle.factoring.proofs.Joining.{round-gate, round-node, round-joins, round-carries, round-less, round-word, round-count, round-done}
 use Rattle.factoring.proofs.join.join_round.Statement.{statement}

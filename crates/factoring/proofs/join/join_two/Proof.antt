@@ -1,3 +1,4 @@
+-- `join_two`: each need by its law.
 use mathlib.Core.Path.{refl, _∙_}
 use Rattle.factoring.proofs.Joining.{two-double, two-place, two-behind, two-node, two-sum, two-first, two-sig, two-done}
 use Rattle.factoring.proofs.join.join_two.Statement.{statement}

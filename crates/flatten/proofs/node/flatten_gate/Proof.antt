@@ -1,3 +1,4 @@
+-- `flatten_gate`: each need by its law.
 use Rattle.flatten.proofs.Gates.{flat-other, flat-xor, flattens}
 use borrow.Author.Needs.{needs}
 use Rattle.flatten.proofs.node.flatten_gate.Statement.{statement}

@@ -1,3 +1,4 @@
+-- `merge_gate`: each need by its law.
 use Rattle.flatten.proofs.Gates.{merge-done, mergers}
 use borrow.Author.Needs.{needs}
 use Rattle.flatten.proofs.node.merge_gate.Statement.{statement}

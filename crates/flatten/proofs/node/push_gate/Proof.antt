@@ -1,3 +1,4 @@
+-- `push_gate`: each need by its law.
 use Rattle.flatten.proofs.Gates.{push-gate-done, push-gate-full}
 use native.Mathlib.Omega.{arith}
 use borrow.Author.Needs.{needs}

@@ -1,3 +1,4 @@
+-- `make_and`: each need by its law.
 use Rattle.gates.proofs.Pairs.{ands}
 use borrow.Author.Needs.{needs}
 use Rattle.gates.proofs.binary.make_and.Statement.{statement}

@@ -1,3 +1,4 @@
+-- `make_xor`: each need by its law.
 use Rattle.gates.proofs.Pairs.{xors}
 use borrow.Author.Needs.{needs}
 use Rattle.gates.proofs.binary.make_xor.Statement.{statement}

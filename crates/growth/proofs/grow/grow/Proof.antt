@@ -1,3 +1,4 @@
+-- `grow`: each need by its law.
 use borrow.Author.Needs.{needs}
 use Rattle.growth.proofs.Wholes.{grow-done, grows}
 use Rattle.growth.proofs.grow.grow.Statement.{statement}

@@ -1,3 +1,4 @@
+-- `put_buf`: each need by its law.
 use borrow.Author.Needs.{needs}
 use Rattle.growth.proofs.Growings.{puts}
 use Rattle.growth.proofs.grow.put_buf.Statement.{statement}

@@ -1,3 +1,4 @@
+-- `put_two`: each need by its law.
 use borrow.Author.Needs.{needs}
 use Rattle.growth.proofs.Growings.{puts}
 use Rattle.growth.proofs.grow.put_two.Statement.{statement}

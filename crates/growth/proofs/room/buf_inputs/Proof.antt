@@ -1,3 +1,4 @@
+-- `buf_inputs`: what its loop keeps, and each need by its law.
 use Prim.Native.Nat.{_-_}
 use borrow.Author.Needs.{needs}
 use Rattle.growth.proofs.Rooms.{Summing, sum-taken, sums}

@@ -1,3 +1,4 @@
+-- `room_for`: each need by its law.
 use borrow.Author.Needs.{needs}
 use Rattle.growth.proofs.Rooms.{rooms}
 use Rattle.growth.proofs.room.room_for.Statement.{statement}

@@ -1,3 +1,4 @@
+-- `read`: each need by its law.
 use Rattle.tables.proofs.Entering.{same-back, areas-one, kept-one}
 use Rattle.model.specs.Entries.{readOutcome}
 use Rattle.lanternlean.specs.Works.{readWork}

@@ -1,3 +1,4 @@
+-- `work`: each need by its law.
 use Rattle.lanternlean.proofs.Working.{works}
 use borrow.Author.Needs.{needs}
 use Rattle.lanternlean.proofs.read.work.Statement.{statement}

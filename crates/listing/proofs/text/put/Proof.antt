@@ -1,3 +1,4 @@
+-- `put`: each need by its law.
 use borrow.Author.Needs.{needs}
 use Rattle.listing.proofs.Puts.{bytes}
 use Rattle.listing.proofs.text.put.Statement.{statement}

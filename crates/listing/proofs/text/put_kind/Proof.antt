@@ -1,3 +1,4 @@
+-- `put_kind`: each need by its law.
 use borrow.Author.Needs.{needs}
 use Rattle.listing.proofs.Names.{name-starts, name-ends, kind-put}
 use Rattle.listing.proofs.text.put_kind.Statement.{statement}

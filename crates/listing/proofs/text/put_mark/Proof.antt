@@ -1,3 +1,4 @@
+-- `put_mark`: each need by its law.
 use borrow.Author.Needs.{needs}
 use Rattle.listing.proofs.Texts.{mark-put, mark-none}
 use Rattle.listing.proofs.text.put_mark.Statement.{statement}

@@ -1,3 +1,4 @@
+-- `put_name`: each need by its law.
 use borrow.Author.Needs.{needs}
 use Rattle.listing.proofs.Texts.{numbers}
 use Rattle.listing.proofs.text.put_name.Statement.{statement}

@@ -1,3 +1,4 @@
+-- `put_signal`: each need by its law.
 use borrow.Author.Needs.{needs}
 use Rattle.listing.proofs.Texts.{signals}
 use Rattle.listing.proofs.text.put_signal.Statement.{statement}

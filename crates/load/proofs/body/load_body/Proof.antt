@@ -1,3 +1,4 @@
+-- `load_body`: each need by its law.
 use Prim.Native.Nat.{_≤_, _-_}
 use Rattle.load.specs.Loading.{Loading}
 use Rattle.load.proofs.Loads.{loads}

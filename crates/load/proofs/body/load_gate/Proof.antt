@@ -1,3 +1,4 @@
+-- `load_gate`: each need by its law.
 use mathlib.Core.Path.{_∙_}
 use borrow.Author.Needs.{needs}
 use Rattle.load.proofs.Loads.{gate-inside, gate-copies, gate-headed, gate-one, gate-behind, gate-ends, gate-free, gate-first, gate-placed}

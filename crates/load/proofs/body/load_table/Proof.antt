@@ -1,3 +1,4 @@
+-- `load_table`: each need by its law.
 use borrow.Author.Needs.{needs}
 use Rattle.load.proofs.Loads.{table-none, low-inside, high-inside, table-one, table-low, table-two, table-high, table-some}
 use Rattle.load.proofs.body.load_table.Statement.{statement}

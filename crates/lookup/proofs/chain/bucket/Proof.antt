@@ -1,3 +1,4 @@
+-- `bucket`: each need by its law.
 use native.Mathlib.Omega.{arith}
 use Rattle.lookup.proofs.Chains.{stirred-small, bucket-listed}
 use borrow.Author.Needs.{needs}

@@ -1,3 +1,4 @@
+-- `empty_chains`: what its loop keeps, and each need by its law.
 use Prim.Native.Nat.{ℕ, _≤_, _-_}
 use mathlib.Core.Path.{_≡_}
 use lib.ListN.{length}

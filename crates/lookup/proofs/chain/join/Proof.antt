@@ -1,3 +1,4 @@
+-- `join`: each need by its law.
 use Prim.Native.Nat.{ℕ, _+_}
 use mathlib.Core.Path.{ap, _∙_}
 use mathlib.Core.List.{List}

@@ -1,3 +1,4 @@
+-- `stir`: each need by its law.
 use Rattle.lookup.specs.Chains.{stir}
 use borrow.Author.Needs.{needs}
 use Rattle.lookup.proofs.chain.stir.Statement.{statement}

@@ -1,3 +1,4 @@
+-- `stir_inputs`: what its loop keeps, and each need by its law.
 use Prim.Native.Nat.{ℕ, _≤_, _<_, _-_}
 use mathlib.Core.Path.{_≡_}
 use Rattle.tables.specs.Layout.{cell}

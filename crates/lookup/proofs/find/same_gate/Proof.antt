@@ -1,3 +1,4 @@
+-- `same_gate`: each need by its law.
 use Prim.Native.Nat.{ℕ, _<_, _^_}
 use mathlib.Core.Path.{sym, ap, _∙_}
 use borrow.Author.Tests.{not-true, not-false}

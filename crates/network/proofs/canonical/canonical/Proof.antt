@@ -1,3 +1,4 @@
+-- `canonical`: each need by its law.
 use Rattle.model.specs.Entries.{canonicalOutcome}
 use Rattle.network_work.specs.Works.{dedupWork}
 use Rattle.network_work.specs.Tasks.{workOf}

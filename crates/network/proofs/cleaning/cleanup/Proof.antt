@@ -1,3 +1,4 @@
+-- `cleanup`: each need by its law.
 use Rattle.model.specs.Entries.{cleanupOutcome}
 use Rattle.network_work.specs.Works.{cleanupWork, cleanupPass}
 use Rattle.network_work.specs.Tasks.{workOf}

@@ -1,3 +1,4 @@
+-- `dedup`: each need by its law.
 use Rattle.model.specs.Entries.{dedupOutcome}
 use Rattle.network_work.specs.Works.{dedupWork}
 use Rattle.network_work.specs.Tasks.{workOf}

@@ -1,3 +1,4 @@
+-- `sort`: each need by its law.
 use Rattle.model.specs.Entries.{sortOutcome}
 use Rattle.network_work.specs.Works.{sortWork, sortPass}
 use Rattle.network_work.specs.Tasks.{workOf}

@@ -1,3 +1,4 @@
+-- `clean`: each need by its law.
 use borrow.Author.Needs.{needs}
 use Rattle.network_work.proofs.Mappings.{mapped}
 use Rattle.network_work.proofs.cleaning.clean.Statement.{statement}

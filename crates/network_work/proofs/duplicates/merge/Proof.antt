@@ -1,3 +1,4 @@
+-- `merge`: each need by its law.
 use borrow.Author.Needs.{needs}
 use Rattle.network_work.proofs.Merging.{merged}
 use Rattle.network_work.proofs.duplicates.merge.Statement.{statement}

@@ -1,3 +1,4 @@
+-- `pass`: each need by its law.
 use borrow.Author.Needs.{needs}
 use Rattle.network_work.proofs.Merging.{merges}
 use Rattle.network_work.proofs.duplicates.pass.Statement.{statement}

@@ -1,3 +1,4 @@
+-- `pass`: each need by its law.
 use borrow.Author.Needs.{needs}
 use Rattle.network_work.proofs.Mappings.{passes}
 use Rattle.network_work.proofs.sorting.pass.Statement.{statement}

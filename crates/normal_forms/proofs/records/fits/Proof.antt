@@ -1,3 +1,4 @@
+-- `fits`: each need by its law.
 use borrow.Author.Needs.{needs}
 use Rattle.normal_forms.proofs.records.fits.Statement.{statement}
 use Rattle.normal_forms.proofs.records.fits.Tie as tie

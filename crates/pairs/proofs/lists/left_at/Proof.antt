@@ -1,3 +1,4 @@
+-- `left_at`: each need by its law.
 use borrow.Author.Needs.{needs}
 use Rattle.pairs.specs.Lists.{leftAt}
 use Rattle.pairs.proofs.lists.left_at.Statement.{statement}

@@ -1,3 +1,4 @@
+-- `pair_first`: each need by its law.
 use borrow.Author.Needs.{needs}
 use Rattle.pairs.specs.Lists.{pairAt, startAt}
 use Rattle.pairs.proofs.lists.pair_first.Statement.{statement}

@@ -1,3 +1,4 @@
+-- `pair_second`: each need by its law.
 use borrow.Author.Needs.{needs}
 use Rattle.pairs.specs.Lists.{leftAt, pairAt}
 use Rattle.pairs.proofs.lists.pair_second.Statement.{statement}

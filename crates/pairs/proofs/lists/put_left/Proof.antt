@@ -1,3 +1,4 @@
+-- `put_left`: each need by its law.
 use borrow.Author.Needs.{needs}
 use Rattle.pairs.specs.Lists.{putLeft}
 use Rattle.pairs.proofs.lists.put_left.Statement.{statement}

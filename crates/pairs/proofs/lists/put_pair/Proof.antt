@@ -1,3 +1,4 @@
+-- `put_pair`: each need by its law.
 use borrow.Author.Needs.{needs}
 use Rattle.pairs.specs.Lists.{putPair}
 use Rattle.pairs.proofs.lists.put_pair.Statement.{statement}

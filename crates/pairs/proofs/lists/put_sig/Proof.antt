@@ -1,3 +1,4 @@
+-- `put_sig`: each need by its law.
 use borrow.Author.Needs.{needs}
 use Rattle.pairs.specs.Lists.{putSig}
 use Rattle.pairs.proofs.lists.put_sig.Statement.{statement}

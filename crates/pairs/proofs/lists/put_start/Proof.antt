@@ -1,3 +1,4 @@
+-- `put_start`: each need by its law.
 use borrow.Author.Needs.{needs}
 use Rattle.pairs.specs.Lists.{putStart}
 use Rattle.pairs.proofs.lists.put_start.Statement.{statement}

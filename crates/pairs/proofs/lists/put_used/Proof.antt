@@ -1,3 +1,4 @@
+-- `put_used`: each need by its law.
 use borrow.Author.Needs.{needs}
 use Rattle.pairs.specs.Lists.{putUsed}
 use Rattle.pairs.proofs.lists.put_used.Statement.{statement}

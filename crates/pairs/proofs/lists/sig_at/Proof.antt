@@ -1,3 +1,4 @@
+-- `sig_at`: each need by its law.
 use borrow.Author.Needs.{needs}
 use Rattle.pairs.specs.Lists.{sigAt}
 use Rattle.pairs.proofs.lists.sig_at.Statement.{statement}

@@ -1,3 +1,4 @@
+-- `start_at`: each need by its law.
 use borrow.Author.Needs.{needs}
 use Rattle.pairs.specs.Lists.{startAt}
 use Rattle.pairs.proofs.lists.start_at.Statement.{statement}

@@ -1,3 +1,4 @@
+-- `used_at`: each need by its law.
 use borrow.Author.Needs.{needs}
 use Rattle.pairs.specs.Lists.{usedAt}
 use Rattle.pairs.proofs.lists.used_at.Statement.{statement}

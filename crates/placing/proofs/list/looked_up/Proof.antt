@@ -1,3 +1,4 @@
+-- `looked_up`: each need by its law.
 use borrow.Author.Needs.{needs}
 use Rattle.placing.proofs.list.looked_up.Statement.{statement}
 use Rattle.placing.proofs.list.looked_up.Tie as tie

@@ -1,3 +1,4 @@
+-- `normalize`: each need by its law.
 use Rattle.gates.specs.Normals.{normalOf}
 use borrow.Author.Needs.{needs}
 use Rattle.placing.proofs.list.normalize.Statement.{statement}

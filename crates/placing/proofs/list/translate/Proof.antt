@@ -1,3 +1,4 @@
+-- `translate`: each need by its law.
 use Rattle.placing.specs.Lists.{trOf}
 use borrow.Author.Needs.{needs}
 use Rattle.placing.proofs.list.translate.Statement.{statement}

@@ -1,3 +1,4 @@
+-- `dedup_node`: each need by its law.
 use native.Mathlib.Nat.{le-refl}
 use mathlib.Core.Path.{ap, _∙_}
 use Rattle.kinds.specs.Kinds.{kindOf}

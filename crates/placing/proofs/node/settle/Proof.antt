@@ -1,3 +1,4 @@
+-- `settle`: each need by its law.
 use mathlib.Core.Path.{_∙_}
 use Rattle.placing.proofs.Standing.{placed-fits, placed-node, settle-room, settle-copy, settle-node}
 use borrow.Author.Needs.{needs}

@@ -1,3 +1,4 @@
+-- `append`: each need by its law.
 use mathlib.Core.Path.{refl, _∙_}
 use Rattle.placing.proofs.Standing.{appended, append-asks, append-node, append-join, append-first, append-inputs, append-nodes, append-fanin}
 use Rattle.placing.proofs.place.append.Statement.{statement}

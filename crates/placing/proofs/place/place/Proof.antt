@@ -1,3 +1,4 @@
+-- `place`: each need by its law.
 use mathlib.Core.Path.{refl}
 use Rattle.lookup.proofs.Chains.{bucket-small}
 use Rattle.placing.proofs.Standing.{room-seeks, place-found, place-new}

@@ -1,3 +1,4 @@
+-- `node_of`: each need by its law.
 use borrow.Author.Needs.{needs}
 use Rattle.remap.proofs.Moves.{node-low}
 use Rattle.remap.proofs.nodes.node_of.Statement.{statement}

@@ -1,3 +1,4 @@
+-- `all_words`: what its loop keeps, and each need by its law.
 use Prim.Native.Nat.{_-_}
 use borrow.Author.Needs.{needs}
 use Rattle.replay.proofs.buffers.all_words.Statement.{statement}

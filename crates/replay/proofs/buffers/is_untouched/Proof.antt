@@ -1,3 +1,4 @@
+-- `is_untouched`: what its loop keeps, and each need by its law.
 use Prim.Native.Nat.{_-_}
 use lib.ListN.{length}
 use borrow.Author.Needs.{needs}

@@ -1,3 +1,4 @@
+-- `start`: what its loop keeps, and each need by its law.
 use Prim.Native.Nat.{_+_, _*_, _-_, _≤_}
 use borrow.Author.Needs.{needs}
 use Rattle.replay.proofs.recorded.start.Statement.{statement}

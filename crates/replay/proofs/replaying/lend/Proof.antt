@@ -1,3 +1,4 @@
+-- `lend`: each need by its law.
 use Rattle.replay.proofs.Fronts.{front}
 use borrow.Author.Needs.{needs}
 use Rattle.replay.proofs.replaying.lend.Statement.{statement}

@@ -1,3 +1,4 @@
+-- `flatten_nary`: each need by its law.
 use borrow.Author.Needs.{needs}
 use Rattle.share_logic.proofs.Staging.{stages}
 use Rattle.share_logic.proofs.Sharing.{shares}

@@ -1,3 +1,4 @@
+-- `factor`: each need by its law.
 use Rattle.model.specs.Entries.{factorOutcome}
 use Rattle.sharing_work.specs.Works.{imagedWork, factorPass}
 use Rattle.sharing_work.specs.Tasks.{passOf}

@@ -1,3 +1,4 @@
+-- `flatten`: each need by its law.
 use Rattle.model.specs.Entries.{flattenOutcome}
 use Rattle.sharing_work.specs.Works.{imagedWork, flattenPass}
 use Rattle.sharing_work.specs.Tasks.{passOf}

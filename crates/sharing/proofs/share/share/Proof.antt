@@ -1,3 +1,4 @@
+-- `share`: each need by its law.
 use Rattle.model.specs.Entries.{shareOutcome}
 use Rattle.sharing_work.specs.Works.{imagedWork, sharePass}
 use Rattle.sharing_work.specs.Tasks.{passOf}

@@ -1,3 +1,4 @@
+-- `enter`: each need by its law.
 use mathlib.Core.Path.{sym, _∙_}
 use borrow.Author.Needs.{needs}
 use Rattle.tables.proofs.Entering.{short-kept}

@@ -1,3 +1,4 @@
+-- `deliver`: each need by its law.
 use borrow.Author.Needs.{needs}
 use Rattle.sharing_work.proofs.Passing.{delivers}
 use Rattle.sharing_work.proofs.deliver.deliver.Statement.{statement}

@@ -1,3 +1,4 @@
+-- `factor`: each need by its law.
 use borrow.Author.Needs.{needs}
 use Rattle.sharing_work.proofs.Passing.{factor-repeats, passes}
 use Rattle.sharing_work.proofs.passes.factor.Statement.{statement}

@@ -1,3 +1,4 @@
+-- `flatten`: each need by its law.
 use borrow.Author.Needs.{needs}
 use Rattle.sharing_work.proofs.Passing.{passes}
 use Rattle.sharing_work.proofs.passes.flatten.Statement.{statement}

@@ -1,3 +1,4 @@
+-- `share`: each need by its law.
 use borrow.Author.Needs.{needs}
 use Rattle.sharing_work.proofs.Passing.{passes}
 use Rattle.sharing_work.proofs.passes.share.Statement.{statement}

@@ -1,3 +1,4 @@
+-- `areas_short`: each need by its law.
 use mathlib.Core.Path.{refl}
 use Rattle.model.specs.Answers.{areasShort}
 use Rattle.tables.proofs.layout.areas_short.Statement.{statement}

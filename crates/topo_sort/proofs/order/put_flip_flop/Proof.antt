@@ -1,3 +1,4 @@
+-- `put_flip_flop`: each need by its law.
 use borrow.Author.Needs.{needs}
 use Rattle.topo_sort.proofs.Flipped.{flips}
 use Rattle.topo_sort.proofs.order.put_flip_flop.Statement.{statement}

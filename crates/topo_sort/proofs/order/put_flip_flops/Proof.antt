@@ -1,3 +1,4 @@
+-- `put_flip_flops`: what its loop keeps, and each need by its law.
 use borrow.Author.Needs.{needs}
 use mathlib.Core.Path.{_≡_}
 use lib.ListN.{length}

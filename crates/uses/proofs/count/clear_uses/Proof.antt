@@ -1,3 +1,4 @@
+-- `clear_uses`: what its loop keeps, and each need by its law.
 use Prim.Native.Nat.{_-_}
 use borrow.Author.Needs.{needs}
 use Rattle.uses.proofs.Walks.{Cleared, clears}

@@ -1,3 +1,4 @@
+-- `count_signal_usage`: each need by its law.
 use borrow.Author.Needs.{needs}
 use Rattle.uses.proofs.Walks.{marks}
 use Rattle.uses.proofs.count.count_signal_usage.Statement.{statement}

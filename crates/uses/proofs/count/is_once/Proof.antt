@@ -1,3 +1,4 @@
+-- `is_once`: each need by its law.
 use borrow.Author.Needs.{needs}
 use Rattle.uses.proofs.Tallies.{notes}
 use Rattle.uses.proofs.count.is_once.Statement.{statement}

@@ -1,3 +1,4 @@
+-- `note_use`: each need by its law.
 use borrow.Author.Needs.{needs}
 use Rattle.uses.proofs.Tallies.{notes}
 use Rattle.uses.proofs.count.note_use.Statement.{statement}

@@ -1,3 +1,4 @@
+-- `takes`: each need by its law.
 use borrow.Author.Needs.{needs}
 use Rattle.uses.proofs.Slots.{taking}
 use Rattle.uses.proofs.count.takes.Statement.{statement}

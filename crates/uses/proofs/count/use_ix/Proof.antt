@@ -1,3 +1,4 @@
+-- `use_ix`: each need by its law.
 use borrow.Author.Needs.{needs}
 use Rattle.uses.proofs.Tallies.{notes}
 use Rattle.uses.proofs.count.use_ix.Statement.{statement}

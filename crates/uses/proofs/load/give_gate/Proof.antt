@@ -1,3 +1,4 @@
+-- `give_gate`: each need by its law.
 use borrow.Author.Needs.{needs}
 use Rattle.uses.proofs.Givings.{gateGives, gives-done}
 use Rattle.uses.proofs.load.give_gate.Statement.{statement}

@@ -1,3 +1,4 @@
+-- `load_gate`: each need by its law.
 use borrow.Author.Needs.{needs}
 use Rattle.uses.proofs.Loads.{gateLoads}
 use Rattle.uses.proofs.load.load_gate.Statement.{statement}

@@ -1,3 +1,4 @@
+-- `pick_one`: each need by its law.
 use borrow.Author.Needs.{needs}
 use Rattle.uses.proofs.Picking.{ones}
 use Rattle.uses.proofs.load.pick_one.Statement.{statement}

@@ -1,3 +1,4 @@
+-- `pick_signals`: what its loop keeps, and each need by its law.
 use Prim.Native.Nat.{_-_}
 use borrow.Author.Needs.{needs}
 use Rattle.model.specs.Sharing.{once}

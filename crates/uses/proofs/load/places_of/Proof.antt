@@ -1,3 +1,4 @@
+-- `places_of`: each need by its law.
 use borrow.Author.Needs.{needs}
 use Rattle.uses.proofs.Picking.{places}
 use Rattle.uses.proofs.load.places_of.Statement.{statement}
