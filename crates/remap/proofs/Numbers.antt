@@ -48,9 +48,6 @@ module _ (l : List ℕ) (n k : ℕ) where
   unfolding translation
   map-other v d = ap (λ (t : List ℕ). getD t v 0) split ∙ getD-set-other (fill (replicate n 0) 0 (orderFrom l 0 k)) (cell l orderBase k) v (fromVar k) 0 d
 
-pub number-table : (l : List ℕ) (n m : ℕ) → Numbering l n m → 4672 + n ≤ length l
-number-table l n m C = let r = C .room in let most = C .most in omega arith
-
 -- z is l with the mapping's table cleared
 module _ (l z : List ℕ) (n m : ℕ) (C : Numbering l n m) (q : z ≡ clearedTable l trBase n) where
   z-order : (j : ℕ) → cell z orderBase j ≡ cell l orderBase j

@@ -1,10 +1,11 @@
 -- `number_nodes`: what its loop keeps, and each need by its law.
 use Prim.Native.Nat.{_≤_, _-_, zero-le}
 use mathlib.Core.Path.{_≡_, refl, _∙_}
+use native.Mathlib.Omega.{arith}
 use lib.ListN.{length}
 use Rattle.remap.specs.Remapping.{Numbers}
 use Rattle.remap.proofs.Turns.{turn-up, turn-less}
-use Rattle.remap.proofs.Numbers.{number-table, number-none, number-order, number-word, number-small, number-place, number-count, number-next, number-done}
+use Rattle.remap.proofs.Numbers.{number-none, number-order, number-word, number-small, number-place, number-count, number-next, number-done}
 use Rattle.remap.proofs.number_nodes.Statement.{statement}
 use Rattle.remap.proofs.number_nodes.Tie as tie
 
@@ -20,7 +21,7 @@ number-nodes-spec =
     (tie.spec
     Inv-loop
     μ-loop
-    (λ c κs. number-table _ _ _ (c .before .before .pre))
+    (λ c κs. omega arith)
     (λ c. (zero-le, refl, number-none _ _ _ _ (c .before .before .before .before .before .pre) (c .before .before .clear-table .ensures)))
     (λ c κs. number-order _ _ _ _ (c .before .before .before .before .before .before .before .before .pre) (c .before .before .before .before .before .clear-table .ensures) _ _ (c .before .before .loop .inv .2) (c .before .loop-test .taken))
     (λ c. number-word _ _ _ _ (c .before .before .before .before .before .before .before .before .before .before .pre) (c .before .before .before .before .before .before .before .clear-table .ensures) _ _ (c .before .before .before .before .loop .inv .2) (c .before .before .before .loop-test .taken))
