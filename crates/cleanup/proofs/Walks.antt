@@ -224,13 +224,6 @@ module _ (from l : List ℕ) (c : Counts) (v k : ℕ) (G : Keeping from l c v k)
           few = omega arith;
         }
 
-module _ {n v : ℕ} (h : v < n) where
-  pub turn-less : n - (v + 1) < n - v
-  turn-less = omega arith
-
-  pub turn-within : v + 1 ≤ n
-  turn-within = omega arith
-
 pub keep-count : (from l : List ℕ) (c : Counts) (v k : ℕ) → Keeping from l c v k → v < c .nodes → Fits w64 (v + 1)
 keep-count from l c v k G h = record { fits = omega (arith, G .marked .ok .few) }
 

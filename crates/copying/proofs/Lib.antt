@@ -1,3 +1,2 @@
 -- What belongs to no one function.
-pub mod Turns
 pub mod Copied

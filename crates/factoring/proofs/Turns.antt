@@ -94,9 +94,6 @@ pub record Walked (all : State → ℕ → State) (l₀ l : List ℕ) (g n k roo
   pub placed : Placed l₀ l g
   pub state : stateOf l g n m ≡ all (stateOf l₀ g n k) i
 
-pub turn-less : {n i : ℕ} → i < n → n - (i + 1) < n - i
-turn-less h = omega arith
-
 pub turn-count : {all : State → ℕ → State} (l₀ l : List ℕ) (g n k room m i : ℕ) → Walked all l₀ l g n k room m i → i < g → Fits w64 (i + 1)
 turn-count l₀ l g n k room m i inv h = record { fits = omega (arith, inv .ready .laid .few) }
 

@@ -13,13 +13,6 @@ use Rattle.tables.specs.Layout.{netSize, putInput, putOutput}
 use Rattle.tables.specs.Building.{putInputs, putOutputs}
 use Rattle.load.specs.Loading.{wordFrom, Copies, Outputs}
 
-module _ {n j : ℕ} (h : j < n) where
-  pub turn-less : n - (j + 1) < n - j
-  turn-less = omega arith
-
-  pub turn-within : j + 1 ≤ n
-  turn-within = omega arith
-
 -- ---- the inputs
 
 module _ (b : List ℕ) (at : ℕ) (l : List ℕ) (first : ℕ) where

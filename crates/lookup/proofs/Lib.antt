@@ -1,4 +1,3 @@
-pub mod Turns
 pub mod Filled
 pub mod Searches
 pub mod Chains

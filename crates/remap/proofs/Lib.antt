@@ -1,4 +1,3 @@
-pub mod Turns
 pub mod Tabled
 pub mod Moves
 pub mod Numbers

@@ -1,4 +1,3 @@
-pub mod Turns
 pub mod Stored
 pub mod Sizes
 pub mod Writes

@@ -3,7 +3,8 @@ use Prim.Native.Nat.{_≤_, _-_, zero-le}
 use mathlib.Core.Path.{_≡_, refl, _∙_}
 use lib.ListN.{length}
 use Rattle.cleanup.specs.Marking.{Keeping}
-use Rattle.cleanup.proofs.Walks.{turn-less, turn-within, keep-start, keep-count, keep-end}
+use Rattle.laws.proofs.Turns.{turn-less, turn-up}
+use Rattle.cleanup.proofs.Walks.{keep-start, keep-count, keep-end}
 use Rattle.cleanup.proofs.keep_marked.Statement.{statement}
 use Rattle.cleanup.proofs.keep_marked.Tie as tie
 
@@ -26,7 +27,7 @@ loop-less : tie.Need-loop-less Inv-loop μ-loop
 loop-less c = turn-less (c .before .before .before .before .loop-test .taken)
 
 loop-again : tie.Need-loop-again Inv-loop μ-loop
-loop-again c = (turn-within (c .before .before .before .before .loop-test .taken), c .before .before .keep-node .kept .1 .0 ∙ c .before .before .before .before .before .loop .inv .1, c .before .before .keep-node .ensures)
+loop-again c = (turn-up (c .before .before .before .before .loop-test .taken), c .before .before .keep-node .kept .1 .0 ∙ c .before .before .before .before .before .loop .inv .1, c .before .before .keep-node .ensures)
 
 same-length : tie.Need-same-length Inv-loop μ-loop
 same-length c = c .before .loop .inv .1

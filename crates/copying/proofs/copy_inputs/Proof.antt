@@ -1,6 +1,6 @@
 -- `copy_inputs`: what its loop keeps, and each need by its law.
 use Prim.Native.Nat.{_-_}
-use Rattle.copying.proofs.Turns.{turn-less, turn-fits}
+use Rattle.laws.proofs.Turns.{turn-fits, turn-less}
 use Rattle.copying.proofs.Copied.{Copying, copy-start, copy-read-fits, copy-write-fits, copy-input, copy-place, copy-step, copy-end}
 use Rattle.copying.proofs.copy_inputs.Statement.{statement}
 use Rattle.copying.proofs.copy_inputs.Tie as tie

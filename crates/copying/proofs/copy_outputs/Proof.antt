@@ -1,6 +1,6 @@
 -- `copy_outputs`: what its loop keeps, and each need by its law.
 use Prim.Native.Nat.{_-_}
-use Rattle.copying.proofs.Turns.{turn-less, turn-fits}
+use Rattle.laws.proofs.Turns.{turn-fits, turn-less}
 use Rattle.copying.proofs.Copied.{Outs, outs-start, outs-read, outs-write, outs-next, outs-end}
 use Rattle.copying.proofs.copy_outputs.Statement.{statement}
 use Rattle.copying.proofs.copy_outputs.Tie as tie

@@ -5,7 +5,7 @@ use lib.ListN.{length}
 use Rattle.tables.specs.Layout.{cell, trBase}
 use Rattle.tables.specs.Building.{putInputs}
 use Rattle.remap.specs.Remapping.{inputsBy}
-use Rattle.remap.proofs.Turns.{turn-less, turn-fits}
+use Rattle.laws.proofs.Turns.{turn-fits, turn-less}
 use Rattle.remap.proofs.Moves.{copy-none, copy-done, copy-read, copy-input, copy-turn, copy-put, copy-place, copy-next}
 use Rattle.remap.proofs.copy_inputs.Statement.{statement}
 use Rattle.remap.proofs.copy_inputs.Tie as tie

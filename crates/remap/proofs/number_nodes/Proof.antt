@@ -4,7 +4,7 @@ use mathlib.Core.Path.{_≡_, refl, _∙_}
 use native.Mathlib.Omega.{arith}
 use lib.ListN.{length}
 use Rattle.remap.specs.Remapping.{Numbers}
-use Rattle.remap.proofs.Turns.{turn-up, turn-less}
+use Rattle.laws.proofs.Turns.{turn-less, turn-up}
 use Rattle.remap.proofs.Numbers.{number-none, number-order, number-word, number-small, number-place, number-count, number-next, number-done}
 use Rattle.remap.proofs.number_nodes.Statement.{statement}
 use Rattle.remap.proofs.number_nodes.Tie as tie

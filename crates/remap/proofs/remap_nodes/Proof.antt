@@ -3,7 +3,7 @@ use Prim.Native.Nat.{_≤_, _-_, zero-le}
 use mathlib.Core.Path.{_≡_, refl, _∙_}
 use lib.ListN.{length}
 use Rattle.remap.specs.Remapping.{Moving}
-use Rattle.remap.proofs.Turns.{turn-up, turn-less}
+use Rattle.laws.proofs.Turns.{turn-less, turn-up}
 use Rattle.remap.proofs.Moves.{move-none, move-order, move-count, move-place, move-next, move-done}
 use Rattle.remap.proofs.remap_nodes.Statement.{statement}
 use Rattle.remap.proofs.remap_nodes.Tie as tie

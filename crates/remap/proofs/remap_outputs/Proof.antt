@@ -5,7 +5,7 @@ use lib.ListN.{length}
 use Rattle.tables.specs.Layout.{cell, trBase}
 use Rattle.tables.specs.Building.{putOutputs}
 use Rattle.remap.specs.Remapping.{outputsBy}
-use Rattle.remap.proofs.Turns.{turn-less, turn-fits}
+use Rattle.laws.proofs.Turns.{turn-fits, turn-less}
 use Rattle.remap.proofs.Moves.{out-none, out-done, out-read, out-turn, out-place, out-next}
 use Rattle.remap.proofs.remap_outputs.Statement.{statement}
 use Rattle.remap.proofs.remap_outputs.Tie as tie

@@ -4,7 +4,7 @@ use mathlib.Core.Path.{_≡_}
 use lib.ListN.{length}
 use Rattle.model.specs.Image.{gatesWords}
 use Rattle.tables.specs.Layout.{nodesOf}
-use Rattle.write.proofs.Turns.{turn-less}
+use Rattle.laws.proofs.Turns.{turn-less}
 use Rattle.write.proofs.Writes.{node-held, len-none, len-next, len-fits, len-count, len-all, len-add, len-add4, len-mul}
 use Rattle.write.proofs.image_len.Statement.{statement}
 use Rattle.write.proofs.image_len.Tie as tie

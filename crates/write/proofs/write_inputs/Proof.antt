@@ -3,7 +3,7 @@ use Prim.Native.Nat.{_≤_, _-_, zero-le}
 use mathlib.Core.Path.{_≡_, refl}
 use lib.ListN.{length}
 use Rattle.write.specs.Writing.{putWords, insFrom}
-use Rattle.write.proofs.Turns.{turn-less, turn-fits}
+use Rattle.laws.proofs.Turns.{turn-fits, turn-less}
 use Rattle.write.proofs.Writes.{ins-none, ins-all, ins-four, ins-at, ins-place, ins-asked, ins-room, ins-next}
 use Rattle.write.proofs.write_inputs.Statement.{statement}
 use Rattle.write.proofs.write_inputs.Tie as tie

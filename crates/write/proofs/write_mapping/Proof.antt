@@ -4,7 +4,7 @@ use mathlib.Core.Path.{_≡_, refl}
 use lib.ListN.{length}
 use Rattle.model.specs.Answers.{laidOver}
 use Rattle.write.specs.Writing.{mappingIn}
-use Rattle.write.proofs.Turns.{turn-less, turn-fits}
+use Rattle.laws.proofs.Turns.{turn-fits, turn-less}
 use Rattle.write.proofs.Writes.{mapping-none, mapping-all, mapping-read, mapping-place, mapping-room, mapping-next}
 use Rattle.write.proofs.write_mapping.Statement.{statement}
 use Rattle.write.proofs.write_mapping.Tie as tie

@@ -5,7 +5,7 @@ use lib.ListN.{length}
 use Rattle.model.specs.Image.{gatesWords}
 use Rattle.tables.specs.Layout.{nodesOf}
 use Rattle.write.specs.Writing.{Put}
-use Rattle.write.proofs.Turns.{turn-up, turn-less}
+use Rattle.laws.proofs.Turns.{turn-less, turn-up}
 use Rattle.write.proofs.Writes.{nodes-none, node-writes, nodes-count, nodes-next, nodes-all}
 use Rattle.write.proofs.write_nodes.Statement.{statement}
 use Rattle.write.proofs.write_nodes.Tie as tie

@@ -3,7 +3,7 @@ use Prim.Native.Nat.{_≤_, _-_, zero-le}
 use mathlib.Core.Path.{_≡_, refl}
 use lib.ListN.{length}
 use Rattle.write.specs.Writing.{putWords, outsFrom}
-use Rattle.write.proofs.Turns.{turn-less, turn-fits}
+use Rattle.laws.proofs.Turns.{turn-fits, turn-less}
 use Rattle.write.proofs.Writes.{outs-none, outs-all, outs-four, outs-at, outs-read, outs-room, outs-next}
 use Rattle.write.proofs.write_outputs.Statement.{statement}
 use Rattle.write.proofs.write_outputs.Tie as tie

@@ -3,7 +3,7 @@ use Prim.Native.Nat.{ℕ, _≤_, _-_, zero-le}
 use mathlib.Core.Path.{_≡_, refl}
 use lib.ListN.{length}
 use Rattle.dedup.specs.States.{turned}
-use Rattle.lookup.proofs.Turns.{turn-less, turn-fits}
+use Rattle.laws.proofs.Turns.{turn-less, turn-low}
 use Rattle.dedup.proofs.Endings.{cells-none, cells-long, cells-room, cells-next, cells-end}
 use Rattle.dedup.proofs.ends.remap_cells.Statement.{statement}
 use Rattle.dedup.proofs.ends.remap_cells.Tie as tie
@@ -27,7 +27,7 @@ put-input-requires : tie.Need-put-input-requires Inv-loop μ-loop
 put-input-requires c κs = cells-room _ _ (c .before .before .before .before .before .before .before .pre) _ _ (c .before .before .before .before .before .loop .inv) (c .before .before .before .before .loop-test .taken)
 
 add-k : tie.Need-add-k Inv-loop μ-loop
-add-k c = turn-fits (c .before .before .before .before .before .before .before .loop-test .taken) (c .before .before .before .before .before .before .before .before .before .before .pre .1)
+add-k c = turn-low (c .before .before .before .before .before .before .before .loop-test .taken) (c .before .before .before .before .before .before .before .before .before .before .pre .1)
 
 loop-less : tie.Need-loop-less Inv-loop μ-loop
 loop-less c = turn-less (c .before .before .before .before .before .before .before .loop-test .taken)

@@ -6,7 +6,7 @@ use Rattle.model.specs.Signal.{remapOrder}
 use Rattle.tables.specs.Layout.{outputAt}
 use Rattle.tables.specs.Building.{putOutputs}
 use Rattle.placing.specs.Lists.{trOf}
-use Rattle.lookup.proofs.Turns.{turn-less}
+use Rattle.laws.proofs.Turns.{turn-less}
 use Rattle.dedup.proofs.Endings.{outs-none, outs-long, outs-source, outs-room, outs-count, outs-next, outs-end}
 use Rattle.dedup.proofs.ends.remap_outputs.Statement.{statement}
 use Rattle.dedup.proofs.ends.remap_outputs.Tie as tie

@@ -3,7 +3,7 @@ use Prim.Native.Nat.{ℕ, _≤_, _-_, zero-le}
 use mathlib.Core.Path.{_≡_, refl}
 use lib.ListN.{length}
 use Rattle.dedup.specs.States.{numbered}
-use Rattle.lookup.proofs.Turns.{turn-less}
+use Rattle.laws.proofs.Turns.{turn-less}
 use Rattle.dedup.proofs.Endings.{number-none, number-cast, number-node, number-word, number-count, number-next, number-end}
 use Rattle.dedup.proofs.sweep.number_nodes.Statement.{statement}
 use Rattle.dedup.proofs.sweep.number_nodes.Tie as tie

@@ -5,7 +5,7 @@ use mathlib.Core.Path.{_≡_, refl, ap, _∙_}
 use lib.ListN.{length}
 use Rattle.kinds.specs.Kinds.{isFlipFlop}
 use Rattle.dedup.specs.States.{Sweeping}
-use Rattle.lookup.proofs.Turns.{turn-up, turn-less}
+use Rattle.laws.proofs.Turns.{turn-less, turn-up}
 use Rattle.dedup.proofs.Sweeps.{sweep-kind, sweep-count, sweep-asks, sweep-turn, sweep-skip, sweep-end}
 use Rattle.dedup.proofs.sweep.sweep.Statement.{statement}
 use Rattle.dedup.proofs.sweep.sweep.Tie as tie

@@ -2,7 +2,8 @@
 use Prim.Native.Nat.{_-_}
 use mathlib.Core.Path.{_∙_}
 use Rattle.model.specs.Sharing.{binaries}
-use Rattle.factoring.proofs.Turns.{Walked, turn-less, turn-count, twos-start, twos-next, twos-full, twos-end}
+use Rattle.laws.proofs.Turns.{turn-less}
+use Rattle.factoring.proofs.Turns.{Walked, turn-count, twos-start, twos-next, twos-full, twos-end}
 use Rattle.factoring.proofs.greedy.consume_twos.Statement.{statement}
 use Rattle.factoring.proofs.greedy.consume_twos.Tie as tie
 

@@ -2,8 +2,9 @@
 use Prim.Native.Nat.{_-_}
 use mathlib.Core.Path.{_∙_}
 use Rattle.model.specs.Sharing.{joinGates}
+use Rattle.laws.proofs.Turns.{turn-less}
 use Rattle.factoring.proofs.Rounds.{gates-start, gates-next, gates-full, gates-end}
-use Rattle.factoring.proofs.Turns.{Walked, turn-less, turn-count}
+use Rattle.factoring.proofs.Turns.{Walked, turn-count}
 use Rattle.factoring.proofs.join.join_gates.Statement.{statement}
 use Rattle.factoring.proofs.join.join_gates.Tie as tie
 

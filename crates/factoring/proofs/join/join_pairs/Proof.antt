@@ -1,7 +1,7 @@
 -- `join_pairs`: what its loop keeps, and each need by its law.
 use Prim.Native.Nat.{_-_}
+use Rattle.laws.proofs.Turns.{turn-less}
 use Rattle.factoring.proofs.Joining.{Paired, pairs-start, pairs-two, pairs-count, pairs-step, pairs-end}
-use Rattle.factoring.proofs.Turns.{turn-less}
 use Rattle.factoring.proofs.join.join_pairs.Statement.{statement}
 use Rattle.factoring.proofs.join.join_pairs.Tie as tie
 

@@ -5,7 +5,8 @@ use lib.ListN.{length}
 use Rattle.model.specs.Image.{words}
 use Rattle.tables.specs.Building.{putInputs}
 use Rattle.load.specs.Loading.{wordFrom}
-use Rattle.load.proofs.Copying.{turn-less, inputs-none, inputs-word, inputs-at, inputs-place, inputs-room, inputs-count, inputs-next, inputs-end}
+use Rattle.laws.proofs.Turns.{turn-less}
+use Rattle.load.proofs.Copying.{inputs-none, inputs-word, inputs-at, inputs-place, inputs-room, inputs-count, inputs-next, inputs-end}
 use Rattle.load.proofs.body.load_inputs.Statement.{statement}
 use Rattle.load.proofs.body.load_inputs.Tie as tie
 

@@ -3,7 +3,7 @@ use Prim.Native.Nat.{_≤_, _-_, zero-le}
 use mathlib.Core.Path.{_≡_, refl, _∙_}
 use lib.ListN.{length}
 use Rattle.load.specs.Loading.{Loading}
-use Rattle.load.proofs.Copying.{turn-less, turn-within}
+use Rattle.laws.proofs.Turns.{turn-less, turn-up}
 use Rattle.load.proofs.Loads.{loading-none, loading-fits, loading-count, loading-next, loading-end}
 use Rattle.load.proofs.body.load_nodes.Statement.{statement}
 use Rattle.load.proofs.body.load_nodes.Tie as tie
@@ -27,7 +27,7 @@ loop-less : tie.Need-loop-less Inv-loop μ-loop
 loop-less c = turn-less (c .before .before .before .before .loop-test .taken)
 
 loop-again : tie.Need-loop-again Inv-loop μ-loop
-loop-again c = (turn-within (c .before .before .before .before .loop-test .taken), c .before .before .load-gate .kept .1 .1 .0 ∙ c .before .before .before .before .before .loop .inv .1, loading-next _ _ _ (c .before .before .before .before .before .before .before .before .pre) _ _ _ (c .before .before .before .before .before .loop .inv .2) (c .before .before .before .before .loop-test .taken) _ _ (c .before .before .load-gate .ensures))
+loop-again c = (turn-up (c .before .before .before .before .loop-test .taken), c .before .before .load-gate .kept .1 .1 .0 ∙ c .before .before .before .before .before .loop .inv .1, loading-next _ _ _ (c .before .before .before .before .before .before .before .before .pre) _ _ _ (c .before .before .before .before .before .loop .inv .2) (c .before .before .before .before .loop-test .taken) _ _ (c .before .before .load-gate .ensures))
 
 same-length : tie.Need-same-length Inv-loop μ-loop
 same-length c = c .before .loop .inv .1

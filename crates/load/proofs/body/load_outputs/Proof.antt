@@ -5,7 +5,8 @@ use lib.ListN.{length}
 use Rattle.model.specs.Image.{words}
 use Rattle.tables.specs.Building.{putOutputs}
 use Rattle.load.specs.Loading.{wordFrom}
-use Rattle.load.proofs.Copying.{turn-less, outputs-none, outputs-word, outputs-at, outputs-room, outputs-count, outputs-next, outputs-end}
+use Rattle.laws.proofs.Turns.{turn-less}
+use Rattle.load.proofs.Copying.{outputs-none, outputs-word, outputs-at, outputs-room, outputs-count, outputs-next, outputs-end}
 use Rattle.load.proofs.body.load_outputs.Statement.{statement}
 use Rattle.load.proofs.body.load_outputs.Tie as tie
 

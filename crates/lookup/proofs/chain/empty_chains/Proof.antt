@@ -3,7 +3,7 @@ use Prim.Native.Nat.{ℕ, _≤_, _-_}
 use mathlib.Core.Path.{_≡_}
 use lib.ListN.{length}
 use Rattle.lookup.specs.Chains.{emptied}
-use Rattle.lookup.proofs.Turns.{turn-less}
+use Rattle.laws.proofs.Turns.{turn-less}
 use Rattle.lookup.proofs.Chains.{empty-none, empty-word, empty-count, empty-next, empty-end}
 use Rattle.lookup.proofs.chain.empty_chains.Statement.{statement}
 use Rattle.lookup.proofs.chain.empty_chains.Tie as tie

@@ -4,7 +4,7 @@ use mathlib.Core.Path.{_≡_}
 use Rattle.tables.specs.Layout.{cell}
 use Rattle.lookup.specs.Lists.{listBase}
 use Rattle.lookup.specs.Chains.{stirred}
-use Rattle.lookup.proofs.Turns.{turn-less, turn-fits}
+use Rattle.laws.proofs.Turns.{turn-less, turn-low}
 use Rattle.lookup.proofs.Chains.{stir-none, stir-word, stir-next, stir-end}
 use Rattle.lookup.proofs.chain.stir_inputs.Statement.{statement}
 use Rattle.lookup.proofs.chain.stir_inputs.Tie as tie
@@ -28,7 +28,7 @@ stir-requires : tie.Need-stir-requires Inv-loop μ-loop
 stir-requires c κs = c .before .before .loop .inv .1
 
 add-j : tie.Need-add-j Inv-loop μ-loop
-add-j c = turn-fits (c .before .before .loop-test .taken) (c .before .before .before .before .before .before .pre .1)
+add-j c = turn-low (c .before .before .loop-test .taken) (c .before .before .before .before .before .before .pre .1)
 
 loop-less : tie.Need-loop-less Inv-loop μ-loop
 loop-less c = turn-less (c .before .before .loop-test .taken)

@@ -3,7 +3,7 @@ use Prim.Native.Nat.{ℕ, _≤_, _-_, zero-le}
 use mathlib.Core.Path.{_≡_, sym, _∙_}
 use mathlib.Core.Bool.{true}
 use Rattle.lookup.specs.Lists.{sameIns}
-use Rattle.lookup.proofs.Turns.{turn-up, turn-less}
+use Rattle.laws.proofs.Turns.{turn-less, turn-up}
 use Rattle.lookup.proofs.Searches.{same-none, same-more, same-differ, same-word, same-place, same-input, same-count, same-end}
 use Rattle.lookup.proofs.find.same_inputs.Statement.{statement}
 use Rattle.lookup.proofs.find.same_inputs.Tie as tie

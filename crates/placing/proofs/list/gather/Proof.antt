@@ -3,7 +3,7 @@ use Prim.Native.Nat.{ℕ, _≤_, _-_, zero-le}
 use mathlib.Core.Path.{_≡_, refl}
 use lib.ListN.{length}
 use Rattle.placing.specs.Lists.{gathered}
-use Rattle.lookup.proofs.Turns.{turn-less}
+use Rattle.laws.proofs.Turns.{turn-less}
 use Rattle.placing.proofs.Fills.{gather-none, gather-long, gather-place, gather-input, gather-word, gather-count, gather-next, gather-end}
 use Rattle.placing.proofs.list.gather.Statement.{statement}
 use Rattle.placing.proofs.list.gather.Tie as tie

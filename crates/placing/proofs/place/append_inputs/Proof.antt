@@ -5,7 +5,7 @@ use lib.ListN.{length}
 use Rattle.tables.specs.Layout.{cell}
 use Rattle.tables.specs.Building.{putInputs}
 use Rattle.lookup.specs.Lists.{listBase}
-use Rattle.lookup.proofs.Turns.{turn-less}
+use Rattle.laws.proofs.Turns.{turn-less}
 use Rattle.placing.proofs.Fills.{append-none, append-word, append-place, append-room, append-count, append-next, append-end}
 use Rattle.placing.proofs.place.append_inputs.Statement.{statement}
 use Rattle.placing.proofs.place.append_inputs.Tie as tie

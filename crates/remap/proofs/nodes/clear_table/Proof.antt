@@ -3,7 +3,7 @@ use Prim.Native.Nat.{_≤_, _-_, zero-le}
 use mathlib.Core.Path.{_≡_, refl}
 use lib.ListN.{length}
 use Rattle.remap.specs.Tables.{clearedTable}
-use Rattle.remap.proofs.Turns.{turn-less, turn-fits}
+use Rattle.laws.proofs.Turns.{turn-fits, turn-less}
 use Rattle.remap.proofs.Tabled.{clear-none, clear-done, clear-room, clear-next}
 use Rattle.remap.proofs.nodes.clear_table.Statement.{statement}
 use Rattle.remap.proofs.nodes.clear_table.Tie as tie

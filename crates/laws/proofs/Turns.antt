@@ -11,6 +11,9 @@ module _ {j n : ℕ} (h : j < n) where
   pub turn-less : n - (j + 1) < n - j
   turn-less = omega arith
 
-  -- the count is a word
-  pub turn-fits : n ≤ 2048 → Fits w64 (j + 1)
-  turn-fits r = record { fits = omega arith }
+  -- the count is a word, as n is, or as every small number is
+  pub turn-fits : Fits w64 n → Fits w64 (j + 1)
+  turn-fits f = record { fits = omega (arith, f .fits) }
+
+  pub turn-low : n ≤ 2048 → Fits w64 (j + 1)
+  turn-low r = record { fits = omega arith }
