@@ -12,16 +12,6 @@ use Rattle.tables.specs.Holding.{Held}
 use Rattle.tables.specs.declared.counts.Counts.{Counts}
 use Rattle.placing.specs.Lists.{normOf}
 
--- canonical and dedup: by the normalization, and the lengths lent for the image and the mapping
-unfoldable pub dedupWork : Bool → List ℕ → ℕ → ℕ → Outcome
-dedupWork can img room words =
-    let N = netOf img in
-    inRoom room words (unless (sortedRefusalOf img) (written (imageOf (dedupWith (normOf can) N)) (mappingOf (size N) (dedupMap (normOf can) N))))
-
--- of it, what is made of the network
-unfoldable pub dedupPass : Bool → Net → Outcome
-dedupPass can N = written (imageOf (dedupWith (normOf can) N)) (mappingOf (size N) (dedupMap (normOf can) N))
-
 -- a network in one area, and the other to work in
 pub record Passable (from to : List ℕ) (c : Counts) : Type 0 where
   pub held : Held from c
@@ -30,6 +20,14 @@ pub record Passable (from to : List ℕ) (c : Counts) : Type 0 where
 -- what a pass makes of a network, by the lengths lent for the image and for the mapping
 abbrev pub passed : (Net → Outcome) → Net → ℕ → ℕ → Outcome
 passed pass N room mapping = inRoom room mapping (pass N)
+
+-- canonical and dedup, by the normalization
+unfoldable pub dedupPass : Bool → Net → Outcome
+dedupPass can N = written (imageOf (dedupWith (normOf can) N)) (mappingOf (size N) (dedupMap (normOf can) N))
+
+unfoldable pub dedupWork : Bool → List ℕ → ℕ → ℕ → Outcome
+unfolding dedupPass
+dedupWork can img room mapping = inRoom room mapping (unless (sortedRefusalOf img) (dedupPass can (netOf img)))
 
 unfoldable pub cleanupPass : Net → Outcome
 cleanupPass N = written (imageOf (cleanup N)) (mappingOf (size N) (translation (size N) (cleanupOrder N)))

@@ -1,13 +1,13 @@
 -- `canonical`: each need by its law.
 use Rattle.model.specs.Entries.{canonicalOutcome}
-use Rattle.network_work.specs.Works.{dedupWork}
+use Rattle.network_work.specs.Works.{dedupPass, dedupWork}
 use Rattle.network_work.specs.Tasks.{workOf}
 use borrow.Author.Needs.{needs}
 use Rattle.network.proofs.canonical.canonical.Statement.{statement}
 use Rattle.network.proofs.canonical.canonical.Tie as tie
 
 returns : tie.Need-returns
-unfolding canonicalOutcome workOf dedupWork
+unfolding canonicalOutcome workOf dedupWork dedupPass
 returns c = c .before .before .before .before .before .before .before .before .enter .ensures
 
 pub canonical-spec : {M : Type 1} → statement M
