@@ -18,9 +18,9 @@ use Rattle.model.specs.Network.{Cycle, vars, translation, remap, sameList, same
 use Rattle.model.specs.Sharing.{mergeDependencies, flatGate, flats, merged, flattenNary, flattenedInputs, holds, together, beats, consider, topWith, topIn, topOver, findBestPair, takeOut, replaceIn, replacePair, binaries, consumeBinaryGates, greedy, total, allPairs, roundPairs, roundLeft, joinRound, rounds, joinGate, joinGates, times, uses, once, retain, sharedSignals, exclusiveSignals, giveBack, factoring, placesOf, taken, replaced, pairPlaces, grown, factorGates, passRefusal, factorNary, factorRefusal, shareLogic, weight, weights}
 use Rattle.model.specs.Evaluate.{after, allZero, evaluate, forward, gateValue, next, nextState, outputs, run, runFromZero, shows, signalValue, valueOf}
 use Rattle.shape.proofs.Loops.{cycle-unsorted}
-use Rattle.meaning.proofs.Cases.{i0, i1, i2, i3, x0, x1}
+use Rattle.promises.proofs.Cases.{i0, i1, i2, i3, x0, x1}
 use Rattle.meaning.proofs.PromisedMappings.{nodeIn, signalIn}
 use Rattle.meaning.proofs.RemapRuns.{carry}
 
 -- a network that share takes
 pub record Taken (N : Net) (limit : ℕ) : Type 0 where

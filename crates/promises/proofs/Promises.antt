@@ -1,4 +1,4 @@
--- THE PROMISES on one page: each in words, then exactly, then its proof from the files beside this one.
+-- THE PROMISES on one page: each in words, then exactly, then its proof from crates/shape and crates/meaning.
 --
 -- `(x : A) → P` says: for every x of A, P. `P → Q`: if P, then Q. `P × Q`: P and Q. `P ↔ Q`: P exactly when Q. `a ≡ b`: a is b.
 -- What a line `module _ ..` supposes is supposed in all that is set in below it. A line that begins with the name of the statement above
@@ -8,7 +8,7 @@
 --   runFromZero N is         the outputs of every cycle, the flip-flops starting at zero; `is` has the inputs of each cycle, as many
 --                            cycles as one likes. `run N st is` starts from the states st
 --   Kept, Kept2              the contract of every entry: its answer r, and the slices at exit (primed) from those at entry
--- and in PromisedMappings:
+-- and in crates/meaning/proofs/PromisedMappings:
 --   signalIn N st is i s     the value of signal s in the cycle with inputs i, after cycles with inputs `is` from the states st
 --   nodeIn N st is i n       the value of node n in that cycle
 use mathlib.Core.Path.{_≡_, _∙_}
@@ -46,18 +46,18 @@ use Rattle.shape.proofs.Loops.{cycle-unsorted, unsorted-cycle}
 use Rattle.shape.proofs.RoundTrips.{read-written, written-read}
 use Rattle.shape.proofs.Sort.{sort-combs}
 use Rattle.shape.proofs.Valids.{valid-net}
 use Rattle.meaning.proofs.Accepted.{kept-found, unless-twice}
-use Rattle.meaning.proofs.Calls.{Good, calls-run, given}
-use Rattle.meaning.proofs.Cases.{Cases, cases}
+use Rattle.promises.proofs.Calls.{Good, calls-run, given}
+use Rattle.promises.proofs.Cases.{Cases, cases}
 use Rattle.meaning.proofs.CleanupRuns.{cleanup-probe, cleanup-runs-from}
 use Rattle.meaning.proofs.DedupRuns.{canonical-probe, canonical-runs, deduplicate-probe, deduplicate-runs}
 use Rattle.meaning.proofs.FlattenRuns.{flatten-runs}
 use Rattle.meaning.proofs.PromisedImages.{Wrote, factor-wrote, flatten-wrote, read-writes, share-wrote}
 use Rattle.meaning.proofs.PromisedMappings.{Carried, canonical-carried, cleanup-carried, dedup-carried, nodeIn, signalIn, sort-8, sort-carried}
 use Rattle.meaning.proofs.RemapRuns.{carry}
 use Rattle.meaning.proofs.ShareForms.{share-bound, share-simple, share-two}
 use Rattle.meaning.proofs.ShareRuns.{factor-runs, share-runs}
 use Rattle.meaning.proofs.SortRuns.{sort-probe, sort-runs-from, sort-solves}
 
 -- ---- 1. Flatten, factor and share, of networks that are valid and sorted
 

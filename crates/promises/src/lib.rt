@@ -1,0 +1,1 @@
+// Statements only: the page of promises stands in proofs/.
