@@ -31,7 +31,9 @@ use Rattle.tables.proofs.Holding.{size-network, gate-network, getD-insAt, lengt
 use Rattle.tables.specs.Layout.{kindAt, firstAt, countAt, inputAt, lowAt, highAt, outputAt, insAt, gateAt, outputsOf, netOf, cell, store}
 use Rattle.tables.proofs.Places.{length-store, cell-store, cell-store-other}
 use Rattle.values.specs.Values.{valuesBase, valuesEnd, slot, isOdd, valueAt, inputValue, gateValueAt, dffAt, shownAt}
-use Rattle.evaluate.specs.Passes.{inputsTo, forwardTo, outputByte, newState, newByte}
+use Rattle.cycle_checks.specs.Checks.{inputsTo}
+use Rattle.flip_flops.specs.Storing.{newState, newByte}
+use Rattle.evaluate.specs.Passes.{forwardTo, outputByte}
 use Rattle.evaluate.proofs.Numbers.{dff-is}
 
 odd-bit : (b : Bool) → isOdd (bit b) ≡ b

@@ -10,7 +10,8 @@ use Rattle.model.specs.Answers.{laidOver}
 use Rattle.tables.specs.Holding.{networkOf, Held}
 use Rattle.tables.specs.declared.counts.Counts.{Counts}
 use Rattle.values.specs.Values.{valuesEnd}
-use Rattle.evaluate.specs.Passes.{forwardTo, outputByte, newByte}
+use Rattle.flip_flops.specs.Storing.{newByte}
+use Rattle.evaluate.specs.Passes.{forwardTo, outputByte}
 
 -- a sorted network in f, and room for its values in t
 pub record Runs (f t : List ℕ) (c : Counts) : Type 0 where

@@ -3,20 +3,20 @@ ghost use lib.ListN.{length};
 ghost use Rattle.model.specs.Entries.{cycleOutcome};
 ghost use Rattle.tables.specs.Holding.{networkOf};
 ghost use Rattle.tables.specs.Working.{Answered2};
-ghost use Rattle.evaluate.specs.Passes.{Passing, Putting};
+ghost use Rattle.evaluate.specs.Passes.{Putting};
+ghost use Rattle.flip_flops.specs.Storing.{Passing};
 ghost use Rattle.evaluate.specs.Cycle.{Runs, Ran};
-use crate::checks::short;
-use crate::checks::state_above;
-use crate::checks::take_inputs;
 use crate::passes::forward;
 use crate::passes::put_outputs;
-use crate::passes::put_states;
 use answers::Answer;
+use cycle_checks::short;
+use cycle_checks::state_above;
+use cycle_checks::take_inputs;
+use flip_flops::put_states;
 use tables::counts::Counts;
 use tables::scratch::put_word;
 use values::reading::VALUES;
 
-pub mod checks;
 pub mod passes;
 
 // The cycle itself, once the inputs' values are put down.

@@ -1,18 +1,12 @@
-// The passes of a cycle over nodes, outputs and flip-flops.
+// The passes of a cycle over nodes and outputs.
 ghost use mathlib.Core.Path.{_≡_};
-ghost use mathlib.Core.List.{[], _∷_};
-ghost use Prim.Native.Nat.{_+_, _<_};
-ghost use Rattle.laws.specs.Bools.{bit};
 ghost use Rattle.laws.specs.Lists.{tab};
-ghost use Rattle.model.specs.Evaluate.{nextState};
 ghost use Rattle.model.specs.Answers.{laidOver};
-ghost use Rattle.values.specs.Values.{Reads};
-ghost use Rattle.evaluate.specs.Passes.{forwardTo, outputByte, newState, newByte, Passing, Putting};
-use tables::layout::first_at;
-use tables::layout::input_at;
+ghost use Rattle.flip_flops.specs.Storing.{Passing};
+ghost use Rattle.evaluate.specs.Passes.{forwardTo, outputByte, Putting};
+use flip_flops::byte_if;
 use tables::layout::output_at;
 use tables::scratch::put_word;
-use values::gate::is_dff;
 use values::gate::node_value;
 use values::reading::VALUES;
 use values::reading::one_if;
@@ -30,12 +24,6 @@ pub fn forward(from: &[u32], to: &mut [u32], state: &[u8], n: usize)
     }
 }
 
-fn byte_if(b: bool) -> u8
-    ensures { λ r. ⌜ r ≡ bit b ⌝ }
-{
-    if b { 1 } else { 0 }
-}
-
 pub fn put_outputs(from: &[u32], to: &[u32], outputs: &mut [u8], o: usize)
     requires { ⌜ Putting (now from) (now to) (now outputs) o ⌝ }
     ensures { λ _. ⌜ now (outputs .exit) ≡ laidOver (tab (outputByte (now (from .entry)) (now (to .entry))) o) (now (outputs .entry)) ⌝ }
@@ -44,39 +32,5 @@ pub fn put_outputs(from: &[u32], to: &[u32], outputs: &mut [u8], o: usize)
     while j < o {
         outputs[j] = byte_if(value(to, output_at(from, j)));
         j += 1;
-    }
-}
-
-// What a flip-flop stores: en zero holds; en one with res one stores zero; else d is stored.
-fn next_state(d: bool, en: bool, res: bool, q: bool) -> bool
-    ensures { λ r. ⌜ r ≡ nextState (d ∷ en ∷ res ∷ []) q ⌝ }
-{
-    (en & !res & d) | (!en & q)
-}
-
-// Of the flip-flop whose inputs begin at first, by the values of the cycle.
-fn new_state(from: &[u32], to: &[u32], first: usize, q: bool) -> bool
-    requires { ⌜ Reads (now from) (now to) first 3 ⌝ }
-    ensures { λ r. ⌜ r ≡ newState (now (from .entry)) (now (to .entry)) first q ⌝ }
-{
-    let d = value(to, input_at(from, first));
-    let en = value(to, input_at(from, first + 1));
-    let res = value(to, input_at(from, first + 2));
-    next_state(d, en, res, q)
-}
-
-// All flip-flops change together: by the values of the cycle, in which no state that is written here is read.
-pub fn put_states(from: &[u32], to: &[u32], state: &mut [u8], n: usize)
-    requires { ⌜ Passing (now from) (now to) (now state) n ⌝ }
-    ensures { λ _. ⌜ now (state .exit) ≡ laidOver (tab (newByte (now (from .entry)) (now (to .entry)) (now (state .entry))) n) (now (state .entry)) ⌝ }
-{
-    let mut v: usize = 0;
-    while v < n {
-        if !is_dff(from, v) {
-            v += 1;
-            continue;
-        }
-        state[v] = byte_if(new_state(from, to, first_at(from, v), state[v] == 1));
-        v += 1;
     }
 }

@@ -1,6 +1,7 @@
 -- The buffer is filled from the front.
 use Prim.Native.Nat.{_-_}
-use Rattle.evaluate.proofs.Turns.{Filled, turns}
+use Rattle.evaluate.proofs.Turns.{turns}
+use Rattle.flip_flops.proofs.Filling.{Filled}
 use Rattle.evaluate.specs.Passes.{outputByte}
 use borrow.Author.Needs.{needs}
 use Rattle.evaluate.proofs.passes.put_outputs.Statement.{statement}

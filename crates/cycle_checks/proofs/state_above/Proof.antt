@@ -1,10 +1,10 @@
 -- The loop keeps that no flip-flop's byte passed is above 1.
 use Prim.Native.Nat.{_-_}
-use Rattle.evaluate.proofs.Turns.{None, turns}
-use Rattle.evaluate.specs.Passes.{cellAbove}
+use Rattle.cycle_checks.proofs.Checking.{None, turns}
+use Rattle.cycle_checks.specs.Checks.{cellAbove}
 use borrow.Author.Needs.{needs}
-use Rattle.evaluate.proofs.checks.state_above.Statement.{statement}
-use Rattle.evaluate.proofs.checks.state_above.Tie as tie
+use Rattle.cycle_checks.proofs.state_above.Statement.{statement}
+use Rattle.cycle_checks.proofs.state_above.Tie as tie
 
 abbrev Inv-loop : tie.InvT-loop
 Inv-loop from state n v₀ v = None (cellAbove from state) v n

@@ -2,8 +2,8 @@
 use mathlib.Core.Bool.{not, cond, false, _&&_, _||_}
 use Rattle.laws.proofs.Bools.{taut4}
 use Rattle.model.specs.Evaluate.{nextState}
-use Rattle.evaluate.proofs.passes.next_state.Statement.{statement}
-use Rattle.evaluate.proofs.passes.next_state.Tie as tie
+use Rattle.flip_flops.proofs.next_state.Statement.{statement}
+use Rattle.flip_flops.proofs.next_state.Tie as tie
 
 returns : tie.Need-returns
 unfolding nextState

@@ -1,9 +1,9 @@
 -- The loop keeps the words as `inputsTo` has them, and whether a byte passed is above 1.
 use Prim.Native.Nat.{_-_}
-use Rattle.evaluate.proofs.Turns.{Taken, taken-more, turns}
+use Rattle.cycle_checks.proofs.Checking.{Taken, taken-more, turns}
 use borrow.Author.Needs.{needs}
-use Rattle.evaluate.proofs.checks.take_inputs.Statement.{statement}
-use Rattle.evaluate.proofs.checks.take_inputs.Tie as tie
+use Rattle.cycle_checks.proofs.take_inputs.Statement.{statement}
+use Rattle.cycle_checks.proofs.take_inputs.Tie as tie
 
 abbrev Inv-loop : tie.InvT-loop
 Inv-loop to₀ inputs i above₀ k₀ to above k = Taken inputs to₀ to above k i

@@ -1,8 +1,8 @@
 -- By the three values and `next_state`.
 use borrow.Author.Needs.{needs}
-use Rattle.evaluate.proofs.Turns.{turns}
-use Rattle.evaluate.proofs.passes.new_state.Statement.{statement}
-use Rattle.evaluate.proofs.passes.new_state.Tie as tie
+use Rattle.flip_flops.proofs.States.{turns}
+use Rattle.flip_flops.proofs.new_state.Statement.{statement}
+use Rattle.flip_flops.proofs.new_state.Tie as tie
 
 pub new-state-spec : {M : Type 1} → statement M
 new-state-spec =

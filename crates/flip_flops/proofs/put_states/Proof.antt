@@ -1,10 +1,11 @@
 -- The buffer is filled from the front; the byte of a node that is no flip-flop stays.
 use Prim.Native.Nat.{_-_}
-use Rattle.evaluate.proofs.Turns.{Filled, state-goes, turns}
-use Rattle.evaluate.specs.Passes.{newByte}
+use Rattle.flip_flops.proofs.States.{state-goes, turns}
+use Rattle.flip_flops.proofs.Filling.{Filled}
+use Rattle.flip_flops.specs.Storing.{newByte}
 use borrow.Author.Needs.{needs}
-use Rattle.evaluate.proofs.passes.put_states.Statement.{statement}
-use Rattle.evaluate.proofs.passes.put_states.Tie as tie
+use Rattle.flip_flops.proofs.put_states.Statement.{statement}
+use Rattle.flip_flops.proofs.put_states.Tie as tie
 
 abbrev Inv-loop : tie.InvT-loop
 Inv-loop from to state₀ n v₀ state v = Filled (newByte from to state₀) state₀ state v n

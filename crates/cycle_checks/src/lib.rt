@@ -5,7 +5,7 @@ ghost use lib.ListN.{length};
 ghost use Rattle.laws.specs.Lists.{someBelow};
 ghost use Rattle.tables.specs.Layout.{netSize};
 ghost use Rattle.values.specs.Values.{valuesEnd};
-ghost use Rattle.evaluate.specs.Passes.{inputsTo, aboveOne, cellAbove, shorter};
+ghost use Rattle.cycle_checks.specs.Checks.{inputsTo, aboveOne, cellAbove, shorter};
 use tables::counts::Counts;
 use tables::scratch::put_word;
 use values::gate::is_dff;
