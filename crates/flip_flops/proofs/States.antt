@@ -2,7 +2,7 @@
 use mathlib.Core.Path.{_≡_, sym, ap, _∙_}
 use Prim.Native.Nat.{ℕ, _+_, _<_}
 use native.Mathlib.Omega.{arith}
-use mathlib.Core.Bool.{Bool, true, false, not}
+use mathlib.Core.Bool.{Bool, true, false, not, cond, _&&_}
 use mathlib.Core.List.{List, [], _∷_}
 use lib.ListN.{getD, set}
 use lib.Dec.{eqb, ltb}
@@ -11,7 +11,7 @@ use Rattle.kinds.specs.Kinds.{kindOf, isFlipFlop}
 use Rattle.kinds.specs.declared.Kind.{Kind}
 use Rattle.kinds.specs.declared.Kind.the-variants.{And2, Xor2, And3, Xor3, Maj, Mux, AndN, OrN, NandN, NorN, XorN, XnorN, Buf, Dff, Lut}
 use Rattle.laws.specs.Bools.{bit}
-use Rattle.laws.proofs.Bools.{and-right}
+use Rattle.laws.proofs.Bools.{and-right, taut2}
 use Rattle.model.specs.Gate.{fitsKind, fitsCode}
 use Rattle.model.specs.Evaluate.{nextState}
 use Rattle.tables.specs.Layout.{kindAt, firstAt, countAt, inputAt}
@@ -20,13 +20,19 @@ use Rattle.values.proofs.Turns.{input-is, input-first}
 use Rattle.flip_flops.specs.Storing.{newState, newByte, Passing}
 use Rattle.flip_flops.proofs.Filling.{Filled, filled-put, filled-reads, filled-skip, filled-none, filled-all}
 
--- ---- a flip-flop's inputs
+-- ---- a flip-flop's inputs: en, then d and res
 
-module _ (f t : List ℕ) (first : ℕ) where
-  pub state-is : (x y z : ℕ) (d en res q r : Bool) → x ≡ inputAt f first → d ≡ valueAt t x → y ≡ inputAt f (first + 1) → en ≡ valueAt t y
-      → z ≡ inputAt f (first + 2) → res ≡ valueAt t z → r ≡ nextState (d ∷ en ∷ res ∷ []) q → r ≡ newState f t first q
-  unfolding newState
-  state-is x y z d en res q r a a′ b b′ c c′ e = e ∙ rw (← input-first f t first x d a a′, ← input-is f t first 1 y en b b′, ← input-is f t first 2 z res c c′)
+module _ (f t : List ℕ) (first y : ℕ) (en q : Bool) (b : y ≡ inputAt f (first + 1)) (b′ : en ≡ valueAt t y) where
+  pub state-holds : not en ≡ true → q ≡ newState f t first q
+  unfolding newState nextState
+  state-holds e = rw (← input-is f t first 1 y en b b′, not-true en e)
+
+  pub state-stores : not en ≡ false → (x z : ℕ) (d res : Bool) → x ≡ inputAt f first → d ≡ valueAt t x → z ≡ inputAt f (first + 2) → res ≡ valueAt t z
+      → (d && not res) ≡ newState f t first q
+  unfolding newState nextState
+  state-stores e x z d res a a′ c c′ =
+      rw (← input-first f t first x d a a′, ← input-is f t first 1 y en b b′, ← input-is f t first 2 z res c c′, not-false en e)
+      (taut2 (λ d res. d && not res) (λ d res. cond res false d) tt d res)
 
 -- node v is no flip-flop: its byte stays; it is one: its new byte
 pub state-stays : (f t st l : List ℕ) (v n : ℕ) (b : Bool) → Filled (newByte f t st) st l v n → v < n → b ≡ dffAt f v → not b ≡ true
@@ -72,4 +78,4 @@ dff-reads f t st v n first b h l p e a =
     let c : countAt f v ≡ 3 = three-inputs (kindOf (kindAt f v)) (countAt f v) (sym p ∙ not-false b e) (and-right (ltb (kindAt f v) 15) _ (g .fits)) in
     record { long = g .reads .long; room = g .reads .room; ends = rw (a, ← c) (g .reads .ends) }
 
-pub ruleset turns = (state-is, filled-none, filled-all, dff-reads, state-stays, state-goes)
+pub ruleset turns = (filled-none, filled-all, dff-reads, state-stays, state-goes)

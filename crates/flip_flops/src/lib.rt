@@ -1,9 +1,7 @@
 // What flip-flops store at the end of a cycle.
 ghost use mathlib.Core.Path.{_≡_};
-ghost use mathlib.Core.List.{[], _∷_};
 ghost use Rattle.laws.specs.Bools.{bit};
 ghost use Rattle.laws.specs.Lists.{tab};
-ghost use Rattle.model.specs.Evaluate.{nextState};
 ghost use Rattle.model.specs.Answers.{laidOver};
 ghost use Rattle.values.specs.Values.{Reads};
 ghost use Rattle.flip_flops.specs.Storing.{newState, newByte, Passing};
@@ -18,22 +16,16 @@ pub fn byte_if(b: bool) -> u8
     if b { 1 } else { 0 }
 }
 
-// What a flip-flop stores: en zero holds; en one with res one stores zero; else d is stored.
-fn next_state(d: bool, en: bool, res: bool, q: bool) -> bool
-    ensures { λ r. ⌜ r ≡ nextState (d ∷ en ∷ res ∷ []) q ⌝ }
-{
-    (en & !res & d) | (!en & q)
-}
-
-// Of the flip-flop whose inputs begin at first, by the values of the cycle.
+// What the flip-flop whose inputs begin at first stores, by the values of the cycle: en zero holds; en one with res one stores zero; else
+// d is stored.
 fn new_state(from: &[u32], to: &[u32], first: usize, q: bool) -> bool
     requires { ⌜ Reads (now from) (now to) first 3 ⌝ }
     ensures { λ r. ⌜ r ≡ newState (now (from .entry)) (now (to .entry)) first q ⌝ }
 {
-    let d = value(to, input_at(from, first));
-    let en = value(to, input_at(from, first + 1));
-    let res = value(to, input_at(from, first + 2));
-    next_state(d, en, res, q)
+    if !value(to, input_at(from, first + 1)) {
+        return q;
+    }
+    value(to, input_at(from, first)) & !value(to, input_at(from, first + 2))
 }
 
 // All flip-flops change together: by the values of the cycle, in which no state that is written here is read.
