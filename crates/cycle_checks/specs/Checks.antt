@@ -1,23 +1,18 @@
 -- What the checks of a cycle look for, and the inputs' values put down.
 use Prim.Native.Nat.{ℕ, zero, suc, _-_}
-use mathlib.Core.Bool.{Bool, _&&_, _||_}
+use mathlib.Core.Bool.{Bool, _&&_}
 use mathlib.Core.List.{List}
 use lib.ListN.{getD}
 use lib.Dec.{ltb}
 use Rattle.laws.specs.Bools.{bit}
 use Rattle.model.specs.Evaluate.{truths}
 use Rattle.tables.specs.Layout.{store}
-use Rattle.tables.specs.declared.counts.Counts.{Counts}
 use Rattle.values.specs.Values.{valuesBase, dffAt}
 
 -- the inputs' values put down
 unfoldable pub inputsTo : List ℕ → List ℕ → ℕ → List ℕ
 inputsTo ins t zero = t
 inputsTo ins t (suc k) = store (inputsTo ins t k) valuesBase (2047 - k) (bit (truths ins k))
-
--- of the lengths lent for inputs, state and outputs, one is too short
-abbrev pub shorter : Counts → ℕ → ℕ → ℕ → Bool
-shorter c inputs state outputs = ltb outputs (c .outs) || ltb inputs (c .inputs) || ltb state (c .nodes)
 
 abbrev pub aboveOne : List ℕ → ℕ → Bool
 aboveOne l k = ltb 1 (getD l k 0)

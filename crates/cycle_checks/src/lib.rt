@@ -1,23 +1,15 @@
-// The numbers that a cycle itself can give: 13 by lengths, 14 by bytes. The bytes of the inputs are looked at and put down in one pass.
+// 14: what a cycle looks for in bytes. Those of the inputs are looked at and put down in one pass.
 ghost use mathlib.Core.Path.{_≡_};
 ghost use Prim.Native.Nat.{_≤_};
 ghost use lib.ListN.{length};
 ghost use Rattle.laws.specs.Lists.{someBelow};
 ghost use Rattle.tables.specs.Layout.{netSize};
 ghost use Rattle.values.specs.Values.{valuesEnd};
-ghost use Rattle.cycle_checks.specs.Checks.{inputsTo, aboveOne, cellAbove, shorter};
-use tables::counts::Counts;
+ghost use Rattle.cycle_checks.specs.Checks.{inputsTo, aboveOne, cellAbove};
 use tables::scratch::put_word;
 use values::gate::is_dff;
 use values::reading::VALUES;
 use values::reading::one_if;
-
-// Lengths lent for inputs, state and outputs, of which one is too short.
-pub fn short(counts: Counts, inputs: usize, state: usize, outputs: usize) -> bool
-    ensures { λ r. ⌜ r ≡ shorter counts inputs state outputs ⌝ }
-{
-    (outputs < counts.outs) | (inputs < counts.inputs) | (state < counts.nodes)
-}
 
 // The inputs' values, from the far end of the table; whether one of their bytes is above 1.
 pub fn take_inputs(to: &mut [u32], inputs: &[u8], i: usize) -> bool

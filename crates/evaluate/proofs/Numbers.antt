@@ -18,7 +18,8 @@ use Rattle.tables.specs.Holding.{networkOf, Held}
 use Rattle.tables.specs.declared.counts.Counts.{Counts}
 use Rattle.tables.proofs.Holding.{size-network, gate-network, length-outputsOf}
 use Rattle.values.specs.Values.{dffAt}
-use Rattle.cycle_checks.specs.Checks.{aboveOne, cellAbove, shorter}
+use Rattle.cycle_checks.specs.Checks.{aboveOne, cellAbove}
+use Rattle.evaluate.specs.Cycle.{shorter}
 
 pub dff-is : (f : List ℕ) (c : Counts) (v : ℕ) → v < c .nodes → isDff (model.gateAt (networkOf f c) v) ≡ dffAt f v
 unfolding dffAt gateAt

@@ -24,10 +24,10 @@ use Rattle.tables.specs.declared.counts.Counts.{Counts}
 use Rattle.shape.proofs.Named.{shaped-at}
 use Rattle.tables.proofs.Holding.{size-network, gate-network, length-insAt, length-outputsOf}
 use Rattle.values.specs.Values.{valuesBase, valuesEnd, dffAt}
-use Rattle.cycle_checks.specs.Checks.{inputsTo, aboveOne, cellAbove, shorter}
+use Rattle.cycle_checks.specs.Checks.{inputsTo, aboveOne, cellAbove}
 use Rattle.flip_flops.specs.Storing.{Passing}
 use Rattle.evaluate.specs.Passes.{forwardTo, Putting}
-use Rattle.evaluate.specs.Cycle.{Runs, Ran}
+use Rattle.evaluate.specs.Cycle.{shorter, Runs, Ran}
 use Rattle.evaluate.proofs.Numbers.{held-few, refusal-short, refusal-above, refusal-none, outs-long, ins-long, st-long}
 use Rattle.flip_flops.proofs.States.{three-inputs}
 use Rattle.evaluate.proofs.Table.{Valued, valued-none, valued-inputs, valued-nodes, outputs-are, states-are}

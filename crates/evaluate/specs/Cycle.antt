@@ -1,9 +1,10 @@
 -- One cycle: what it asks, and what it leaves.
 use mathlib.Core.Path.{_≡_}
 use Prim.Native.Nat.{ℕ, _≤_}
-use mathlib.Core.Bool.{true}
+use mathlib.Core.Bool.{Bool, true, _||_}
 use mathlib.Core.List.{List}
 use lib.ListN.{length}
+use lib.Dec.{ltb}
 use Rattle.laws.specs.Lists.{tab}
 use Rattle.model.specs.Gate.{isTopoSorted}
 use Rattle.model.specs.Answers.{laidOver}
@@ -12,6 +13,10 @@ use Rattle.tables.specs.declared.counts.Counts.{Counts}
 use Rattle.values.specs.Values.{valuesEnd}
 use Rattle.flip_flops.specs.Storing.{newByte}
 use Rattle.evaluate.specs.Passes.{forwardTo, outputByte}
+
+-- of the lengths lent for inputs, state and outputs, one is too short
+abbrev pub shorter : Counts → ℕ → ℕ → ℕ → Bool
+shorter c inputs state outputs = ltb outputs (c .outs) || ltb inputs (c .inputs) || ltb state (c .nodes)
 
 -- a sorted network in f, and room for its values in t
 pub record Runs (f t : List ℕ) (c : Counts) : Type 0 where

@@ -1,15 +1,15 @@
 // One cycle of a network that stands in a work area: its outputs' bytes, and the state bytes of its flip-flops.
+ghost use mathlib.Core.Path.{_≡_};
 ghost use lib.ListN.{length};
 ghost use Rattle.model.specs.Entries.{cycleOutcome};
 ghost use Rattle.tables.specs.Holding.{networkOf};
 ghost use Rattle.tables.specs.Working.{Answered2};
 ghost use Rattle.evaluate.specs.Passes.{Putting};
 ghost use Rattle.flip_flops.specs.Storing.{Passing};
-ghost use Rattle.evaluate.specs.Cycle.{Runs, Ran};
+ghost use Rattle.evaluate.specs.Cycle.{shorter, Runs, Ran};
 use crate::passes::forward;
 use crate::passes::put_outputs;
 use answers::Answer;
-use cycle_checks::short;
 use cycle_checks::state_above;
 use cycle_checks::take_inputs;
 use flip_flops::put_states;
@@ -18,6 +18,13 @@ use tables::scratch::put_word;
 use values::reading::VALUES;
 
 pub mod passes;
+
+// Lengths lent for inputs, state and outputs, of which one is too short.
+fn short(counts: Counts, inputs: usize, state: usize, outputs: usize) -> bool
+    ensures { λ r. ⌜ r ≡ shorter counts inputs state outputs ⌝ }
+{
+    (outputs < counts.outs) | (inputs < counts.inputs) | (state < counts.nodes)
+}
 
 // The cycle itself, once the inputs' values are put down.
 fn cycle(from: &[u32], to: &mut [u32], counts: Counts, state: &mut [u8], outputs: &mut [u8])
