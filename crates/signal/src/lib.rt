@@ -79,7 +79,7 @@ impl Signal {
     pub fn is_var(self) -> bool
         ensures { λ r. ⌜ r ≡ isVar (self .a) ⌝ }
     {
-        !self.is_input() && !self.is_constant()
+        !self.is_input() & !self.is_constant()
     }
 
     pub fn is_inverted(self) -> bool

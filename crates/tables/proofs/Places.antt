@@ -1,6 +1,6 @@
 -- What a store does to each reading. With specs/Layout.antt the only file that knows the places of the words.
 use Prim.Native.Nat.{ℕ, _+_, _*_, _^_, _≤_, _<_}
-use mathlib.Core.Path.{_≡_, refl, _∙_}
+use mathlib.Core.Path.{_≡_, refl, ap, _∙_}
 use mathlib.Core.List.{List}
 use mathlib.Core.Logic.{_≢_}
 use native.Mathlib.Omega.{arith}
@@ -9,6 +9,28 @@ use mir.Syntax.{w32}
 use mir.Val.{Fits}
 use lib.Seq.{getD-set-same, getD-set-other}
 use Rattle.tables.specs.Layout.{netSize, kindIx, firstIx, countIx, insBase, tabBase, outBase, kindAt, firstAt, countAt, inputAt, lowAt, highAt, outputAt, putGate, putInput, putTable, putOutput, cell, store}
+
+-- ---- the gate table, read and put by the places that the code computes
+
+module _ (l : List ℕ) (v i : ℕ) where
+  pub kind-read : i ≡ kindIx v → getD l i 0 ≡ kindAt l v
+  unfolding kindAt
+  kind-read e = ap (λ j. getD l j 0) e
+
+  pub first-read : (r : ℕ) → i ≡ firstIx v → r ≡ getD l i 0 → r ≡ firstAt l v
+  unfolding firstAt
+  first-read r e w = w ∙ ap (λ j. getD l j 0) e
+
+  pub count-read : (r : ℕ) → i ≡ countIx v → r ≡ getD l i 0 → r ≡ countAt l v
+  unfolding countAt
+  count-read r e w = w ∙ ap (λ j. getD l j 0) e
+
+  pub gate-put : (j k kind first count : ℕ) → i ≡ kindIx v → j ≡ firstIx v → k ≡ countIx v
+      → set (set (set l i kind) j first) k count ≡ putGate l v kind first count
+  unfolding putGate
+  gate-put j k kind first count p q r = rw (p, q, r)
+
+-- ---- what a store does
 
 -- a reading off the places that were stored to
 off1 : (l : List ℕ) (i a n : ℕ) → n ≢ i → getD (set l i a) n 0 ≡ getD l n 0

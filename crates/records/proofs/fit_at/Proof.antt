@@ -4,34 +4,40 @@ use Rattle.records.proofs.Fits.{fit-header, fit-lut, fit-lut-long, fit-
 use Rattle.records.proofs.fit_at.Statement.{statement}
 use Rattle.records.proofs.fit_at.Tie as tie
 
+returns-2 : tie.Need-returns-2
+returns-2 c = fit-header _ _ _ _ (c .before .before .nth .ensures) _ (c .before .header-ok .ensures) (c .if2 .taken)
+
+returns-3 : tie.Need-returns-3
+returns-3 c = fit-plain-long _ _ _ _ (c .before .before .before .before .nth .ensures) _ (c .before .before .before .header-ok .ensures) (c .before .before .if2 .left) (c .before .before .before .before .before .if1 .left) (c .before .if3 .taken) (c .if4 .taken)
+
+returns-4 : tie.Need-returns-4
+returns-4 c = fit-plain _ _ _ _ (c .before .before .before .before .nth .ensures) _ (c .before .before .before .header-ok .ensures) (c .before .before .if2 .left) (c .before .before .before .before .before .if1 .left) (c .before .if3 .taken) (c .if4 .left)
+
+returns-5 : tie.Need-returns-5
+returns-5 c = fit-lut-long _ _ _ _ (c .before .before .before .before .nth .ensures) _ (c .before .before .before .header-ok .ensures) (c .before .before .if2 .left) (c .before .before .before .before .before .if1 .left) (c .before .if3 .left) (c .if5 .taken)
+
 returns-6 : tie.Need-returns-6
-returns-6 c =
-    let table = c .before in
-    let high = table .before in
-    let low = high .before in
-    let room = low .before in
-    let lut = room .before in
-    let sound = lut .before in
-    let header = sound .before in
-    let read = header .before in
-    fit-lut _ _ _ _ (read .nth .ensures) _ (header .header-ok .ensures) (sound .if2 .left) (read .before .if1 .left) (lut .if3 .left) (room .if5 .left) _ _ (low .nth2 .ensures) (high .nth3 .ensures) _ (table .table-ok .ensures) (c .if6 .taken)
+returns-6 c = fit-lut _ _ _ _ (c .before .before .before .before .before .before .before .before .nth .ensures) _ (c .before .before .before .before .before .before .before .header-ok .ensures) (c .before .before .before .before .before .before .if2 .left) (c .before .before .before .before .before .before .before .before .before .if1 .left) (c .before .before .before .before .before .if3 .left) (c .before .before .before .before .if5 .left) _ _ (c .before .before .before .nth2 .ensures) (c .before .before .nth3 .ensures) _ (c .before .table-ok .ensures) (c .if6 .taken)
+
+returns-7 : tie.Need-returns-7
+returns-7 c = fit-table _ _ _ _ (c .before .before .before .before .before .before .before .before .nth .ensures) _ (c .before .before .before .before .before .before .before .header-ok .ensures) (c .before .before .before .before .before .before .if2 .left) (c .before .before .before .before .before .before .before .before .before .if1 .left) (c .before .before .before .before .before .if3 .left) (c .before .before .before .before .if5 .left) _ _ (c .before .before .before .nth2 .ensures) (c .before .before .nth3 .ensures) _ (c .before .table-ok .ensures) (c .if6 .left)
 
 pub fit-at-spec : {M : Type 1} → statement M
 fit-at-spec =
     tie.close
     (tie.spec
-    (λ c. search (needs, fit-past))
+    (λ c. fit-past _ _ _ (c .if1 .taken))
     (λ c κs. search needs)
     (λ c κs. search needs)
-    (λ c. search (needs, fit-header))
+    returns-2
     (λ c. search needs)
     (λ c. search needs)
-    (λ c. search (needs, fit-plain-long))
+    returns-3
     (λ c. search needs)
-    (λ c. search (needs, fit-plain))
+    returns-4
     (λ c. search needs)
     (λ c. search needs)
-    (λ c. search (needs, fit-lut-long))
+    returns-5
     (λ c. search needs)
     (λ c. search needs)
     (λ c κs. search needs)
@@ -41,4 +47,4 @@ fit-at-spec =
     (λ c κs. search (needs, lut-count))
     (λ c. search needs)
     returns-6
-    (λ c. search (needs, fit-table)))
+    returns-7)
