@@ -14,7 +14,7 @@ use Rattle.laws.proofs.Lists.{some-none}
 use Rattle.model.specs.Evaluate.{truths}
 use Rattle.tables.specs.Layout.{store}
 use Rattle.tables.proofs.Places.{length-store}
-use Rattle.values.specs.Values.{valuesBase, valuesEnd, dffAt}
+use Rattle.signal_values.specs.Signals.{valuesBase, valuesEnd, dffAt}
 use Rattle.cycle_checks.specs.Checks.{inputsTo, aboveOne, cellAbove}
 
 -- ---- a test of some number

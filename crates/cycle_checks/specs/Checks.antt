@@ -7,7 +7,7 @@ use lib.Dec.{ltb}
 use Rattle.laws.specs.Bools.{bit}
 use Rattle.model.specs.Evaluate.{truths}
 use Rattle.tables.specs.Layout.{store}
-use Rattle.values.specs.Values.{valuesBase, dffAt}
+use Rattle.signal_values.specs.Signals.{valuesBase, dffAt}
 
 -- the inputs' values put down
 unfoldable pub inputsTo : List ℕ → List ℕ → ℕ → List ℕ

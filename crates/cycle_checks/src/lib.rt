@@ -4,12 +4,12 @@ ghost use Prim.Native.Nat.{_≤_};
 ghost use lib.ListN.{length};
 ghost use Rattle.laws.specs.Lists.{someBelow};
 ghost use Rattle.tables.specs.Layout.{netSize};
-ghost use Rattle.values.specs.Values.{valuesEnd};
+ghost use Rattle.signal_values.specs.Signals.{valuesEnd};
 ghost use Rattle.cycle_checks.specs.Checks.{inputsTo, aboveOne, cellAbove};
+use signal_values::VALUES;
+use signal_values::is_dff;
+use signal_values::one_if;
 use tables::scratch::put_word;
-use values::gate::is_dff;
-use values::reading::VALUES;
-use values::reading::one_if;
 
 // The inputs' values, from the far end of the table; whether one of their bytes is above 1.
 pub fn take_inputs(to: &mut [u32], inputs: &[u8], i: usize) -> bool

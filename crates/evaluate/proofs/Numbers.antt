@@ -17,7 +17,7 @@ use Rattle.tables.specs.Layout.{gateAt, netOf}
 use Rattle.tables.specs.Holding.{networkOf, Held}
 use Rattle.tables.specs.declared.counts.Counts.{Counts}
 use Rattle.tables.proofs.Holding.{size-network, gate-network, length-outputsOf}
-use Rattle.values.specs.Values.{dffAt}
+use Rattle.signal_values.specs.Signals.{dffAt}
 use Rattle.cycle_checks.specs.Checks.{aboveOne, cellAbove}
 use Rattle.evaluate.specs.Cycle.{shorter}
 

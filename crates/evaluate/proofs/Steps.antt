@@ -23,7 +23,7 @@ use Rattle.tables.specs.Working.{Answered2}
 use Rattle.tables.specs.declared.counts.Counts.{Counts}
 use Rattle.shape.proofs.Named.{shaped-at}
 use Rattle.tables.proofs.Holding.{size-network, gate-network, length-insAt, length-outputsOf}
-use Rattle.values.specs.Values.{valuesBase, valuesEnd, dffAt}
+use Rattle.signal_values.specs.Signals.{valuesBase, valuesEnd, dffAt}
 use Rattle.cycle_checks.specs.Checks.{inputsTo, aboveOne, cellAbove}
 use Rattle.flip_flops.specs.Storing.{Passing}
 use Rattle.evaluate.specs.Passes.{forwardTo, Putting}

@@ -30,7 +30,8 @@ use Rattle.tables.specs.declared.counts.Counts.{Counts}
 use Rattle.tables.proofs.Holding.{size-network, gate-network, getD-insAt, length-insAt, getD-outputsOf, length-outputsOf}
 use Rattle.tables.specs.Layout.{kindAt, firstAt, countAt, inputAt, lowAt, highAt, outputAt, insAt, gateAt, outputsOf, netOf, cell, store}
 use Rattle.tables.proofs.Places.{length-store, cell-store, cell-store-other}
-use Rattle.values.specs.Values.{valuesBase, valuesEnd, slot, isOdd, valueAt, inputValue, gateValueAt, dffAt, shownAt}
+use Rattle.signal_values.specs.Signals.{valuesBase, valuesEnd, slot, isOdd, valueAt, inputValue, dffAt}
+use Rattle.values.specs.Values.{gateValueAt, shownAt}
 use Rattle.cycle_checks.specs.Checks.{inputsTo}
 use Rattle.flip_flops.specs.Storing.{newState, newByte}
 use Rattle.evaluate.specs.Passes.{forwardTo, outputByte}

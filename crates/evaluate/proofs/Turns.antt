@@ -13,7 +13,8 @@ use Rattle.model.specs.Answers.{laidOver}
 use Rattle.tables.specs.Layout.{outputAt, store}
 use Rattle.tables.proofs.Places.{length-store}
 use Rattle.tables.specs.declared.counts.Counts.{Counts}
-use Rattle.values.specs.Values.{valuesBase, valueAt, shownAt, Gated}
+use Rattle.signal_values.specs.Signals.{valuesBase, valueAt, Gated}
+use Rattle.values.specs.Values.{shownAt}
 use Rattle.flip_flops.specs.Storing.{newByte, Passing}
 use Rattle.flip_flops.proofs.Filling.{Filled, filled-put, filled-none, filled-all}
 use Rattle.evaluate.specs.Passes.{forwardTo, outputByte, Putting}

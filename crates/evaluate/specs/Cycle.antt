@@ -10,7 +10,7 @@ use Rattle.model.specs.Gate.{isTopoSorted}
 use Rattle.model.specs.Answers.{laidOver}
 use Rattle.tables.specs.Holding.{networkOf, Held}
 use Rattle.tables.specs.declared.counts.Counts.{Counts}
-use Rattle.values.specs.Values.{valuesEnd}
+use Rattle.signal_values.specs.Signals.{valuesEnd}
 use Rattle.flip_flops.specs.Storing.{newByte}
 use Rattle.evaluate.specs.Passes.{forwardTo, outputByte}
 

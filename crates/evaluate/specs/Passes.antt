@@ -5,7 +5,8 @@ use mathlib.Core.List.{List}
 use lib.ListN.{length}
 use Rattle.laws.specs.Bools.{bit}
 use Rattle.tables.specs.Layout.{netSize, outputAt, store}
-use Rattle.values.specs.Values.{valuesBase, valuesEnd, valueAt, shownAt}
+use Rattle.signal_values.specs.Signals.{valuesBase, valuesEnd, valueAt}
+use Rattle.values.specs.Values.{shownAt}
 
 -- the nodes' values put down by the forward pass
 unfoldable pub forwardTo : List ℕ → List ℕ → List ℕ → ℕ → List ℕ

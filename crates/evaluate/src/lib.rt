@@ -13,9 +13,9 @@ use answers::Answer;
 use cycle_checks::state_above;
 use cycle_checks::take_inputs;
 use flip_flops::put_states;
+use signal_values::VALUES;
 use tables::counts::Counts;
 use tables::scratch::put_word;
-use values::reading::VALUES;
 
 pub mod passes;
 

@@ -5,12 +5,12 @@ ghost use Rattle.model.specs.Answers.{laidOver};
 ghost use Rattle.flip_flops.specs.Storing.{Passing};
 ghost use Rattle.evaluate.specs.Passes.{forwardTo, outputByte, Putting};
 use flip_flops::byte_if;
+use signal_values::VALUES;
+use signal_values::one_if;
+use signal_values::value;
 use tables::layout::output_at;
 use tables::scratch::put_word;
-use values::gate::node_value;
-use values::reading::VALUES;
-use values::reading::one_if;
-use values::reading::value;
+use values::node_value;
 
 // The forward pass: each node's value, by the values of the nodes before it.
 pub fn forward(from: &[u32], to: &mut [u32], state: &[u8], n: usize)

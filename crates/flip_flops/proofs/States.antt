@@ -15,8 +15,8 @@ use Rattle.laws.proofs.Bools.{and-right, taut2}
 use Rattle.model.specs.Gate.{fitsKind, fitsCode}
 use Rattle.model.specs.Evaluate.{nextState}
 use Rattle.tables.specs.Layout.{kindAt, firstAt, countAt, inputAt}
-use Rattle.values.specs.Values.{valueAt, dffAt, Reads}
-use Rattle.values.proofs.Turns.{input-is, input-first}
+use Rattle.signal_values.specs.Signals.{valueAt, dffAt, Reads}
+use Rattle.signal_values.proofs.Turns.{input-is, input-first}
 use Rattle.flip_flops.specs.Storing.{newState, newByte, Passing}
 use Rattle.flip_flops.proofs.Filling.{Filled, filled-put, filled-reads, filled-skip, filled-none, filled-all}
 

@@ -7,7 +7,7 @@ use lib.ListN.{length, getD}
 use Rattle.laws.specs.Bools.{bit}
 use Rattle.model.specs.Evaluate.{nextState, truths}
 use Rattle.tables.specs.Layout.{netSize, firstAt}
-use Rattle.values.specs.Values.{valuesEnd, inputValue, dffAt, Gated}
+use Rattle.signal_values.specs.Signals.{valuesEnd, inputValue, dffAt, Gated}
 
 -- the flip-flop whose inputs begin at `first`, and node v's state byte
 unfoldable pub newState : List ℕ → List ℕ → ℕ → Bool → Bool

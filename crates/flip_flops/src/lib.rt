@@ -3,12 +3,12 @@ ghost use mathlib.Core.Path.{_≡_};
 ghost use Rattle.laws.specs.Bools.{bit};
 ghost use Rattle.laws.specs.Lists.{tab};
 ghost use Rattle.model.specs.Answers.{laidOver};
-ghost use Rattle.values.specs.Values.{Reads};
+ghost use Rattle.signal_values.specs.Signals.{Reads};
 ghost use Rattle.flip_flops.specs.Storing.{newState, newByte, Passing};
+use signal_values::is_dff;
+use signal_values::value;
 use tables::layout::first_at;
 use tables::layout::input_at;
-use values::gate::is_dff;
-use values::reading::value;
 
 pub fn byte_if(b: bool) -> u8
     ensures { λ r. ⌜ r ≡ bit b ⌝ }

@@ -6,30 +6,19 @@ use mathlib.Core.Bool.{Bool, true, false, cond}
 use mathlib.Core.List.{List}
 use lib.ListN.{getD}
 use lib.Dec.{eqb, ltb}
-use lib.Bits.{bitAnd}
 use borrow.Author.Tests.{eqb-true, leb-true, ltb-true}
 use Rattle.kinds.specs.Kinds.{kindOf, codeOf}
 use Rattle.kinds.specs.declared.Kind.{Kind}
 use Rattle.kinds.proofs.Codes.{code-kind}
 use Rattle.laws.specs.Lists.{tab}
 use Rattle.laws.proofs.Bools.{and-left, and-right}
-use Rattle.laws.proofs.Tabs.{length-tab}
 use Rattle.model.specs.Gate.{fitsKind, fitsCode}
-use Rattle.model.specs.Evaluate.{weight, valueOf}
+use Rattle.model.specs.Evaluate.{valueOf}
 use Rattle.tables.specs.Layout.{kindAt, firstAt, countAt, lowAt, highAt}
-use Rattle.values.specs.Values.{inputValue, onesTo, onesValue, lutValue, gateValueAt, dffAt, shownAt, Reads, Gated}
-use Rattle.values.proofs.Bits.{mask-odd}
-use Rattle.values.proofs.Sums.{ones-value, weight-small}
-
--- ---- the Lut's bit
-
-pub weight-inside : (f t : List ℕ) (first count w : ℕ) → count ≤ 6 → w ≡ weight (tab (inputValue f t first) count) → w < 64
-weight-inside f t first count w h e = rw e (weight-small 6 (tab (inputValue f t first) count) (rw length-tab h))
-
-pub lut-is : (f t : List ℕ) (v first count w lo hi x y : ℕ) → w ≡ weight (tab (inputValue f t first) count) → lo ≡ lowAt f v → x ≡ lo → hi ≡ highAt f v → y ≡ hi
-    → eqb (bitAnd ((x + 4294967296 * y) / 2 ^ w) 1) 1 ≡ lutValue f t v first count
-unfolding lutValue
-lut-is f t v first count w lo hi x y e a b c d = mask-odd ((x + 4294967296 * y) / 2 ^ w) ∙ rw (e, b, a, d, c)
+use Rattle.signal_values.specs.Signals.{inputValue, onesTo, dffAt, Reads, Gated}
+use Rattle.mux_and_lut.specs.Tables.{lutValue}
+use Rattle.values.specs.Values.{onesValue, gateValueAt, shownAt}
+use Rattle.values.proofs.Sums.{ones-value}
 
 -- ---- by code
 
@@ -85,4 +74,4 @@ pub shown-value : (f t st : List ℕ) (v : ℕ) (b r : Bool) → b ≡ dffAt f v
 unfolding shownAt
 shown-value f t st v b r p e h = rw (← p, e) h
 
-pub ruleset ways = (weight-inside, lut-is, mux-reads, mux-value, gate-reads, lut-short, lut-value, kind-fits, other-value, shown-state, shown-value)
+pub ruleset ways = (mux-reads, mux-value, gate-reads, lut-short, lut-value, kind-fits, other-value, shown-state, shown-value)

@@ -1,4 +1,4 @@
--- A gate's value by the number of its inputs that are one, and by their weight.
+-- A gate's value by the number of its inputs that are one.
 use mathlib.Core.Path.{_≡_, refl, sym, ap, _∙_}
 use mathlib.Core.Logic.{_≢_}
 use Prim.Native.Nat.{ℕ, zero, suc, _+_, _*_, _%_, _^_, _≤_, _<_}
@@ -20,7 +20,9 @@ use Rattle.laws.specs.Lists.{tab}
 use Rattle.laws.proofs.Bools.{xor-false, xor-assoc, taut1, taut3}
 use Rattle.model.specs.Gate.{fitsKind}
 use Rattle.model.specs.Evaluate.{allOf, anyOf, oddOf, weight, at, valueOf}
-use Rattle.values.specs.Values.{isOdd, onesTo, onesValue}
+use Rattle.signal_values.specs.Signals.{isOdd, onesTo}
+use Rattle.signal_values.proofs.Bounds.{ones-most}
+use Rattle.values.specs.Values.{onesValue}
 
 -- ---- one more at the end
 
@@ -74,19 +76,10 @@ odd-more k true = elim (ℕ-discrete (k % 2) 1) [
 odd-more k false = let z : k + 0 ≡ k = omega arith in rw z (xor-false (isOdd k))
 
 module _ (g : ℕ → Bool) where
-  pub ones-most : (n : ℕ) → onesTo g n ≤ n
-  unfolding onesTo
-  ones-most zero = omega arith
-  ones-most (suc n) = go (g n) (ones-most n)
-    where
-      go : (b : Bool) → onesTo g n ≤ n → onesTo g n + bit b ≤ suc n
-      go true h = omega arith
-      go false h = omega arith
-
   all-ones : (n : ℕ) → allOf (tab g n) ≡ eqb (onesTo g n) n
   unfolding tab onesTo
   all-ones zero = refl
-  all-ones (suc n) = all-snoc (tab g n) (g n) ∙ rw (all-ones n) (all-more (onesTo g n) n (g n) (ones-most n))
+  all-ones (suc n) = all-snoc (tab g n) (g n) ∙ rw (all-ones n) (all-more (onesTo g n) n (g n) (ones-most g n))
 
   any-ones : (n : ℕ) → anyOf (tab g n) ≡ ltb 0 (onesTo g n)
   unfolding tab onesTo
@@ -129,17 +122,3 @@ module _ (g : ℕ → Bool) where
   ones-value Buf n t p q f = single n f
   ones-value Dff n t p q f = refl
   ones-value Lut n t p q f = absurd (q refl)
-
--- ---- by weight
-
-pub weight-small : (k : ℕ) (l : List Bool) → length l ≤ k → weight l < 2 ^ k
-weight-small k [] h = pow-pos k
-weight-small zero (b ∷ l) h = absurd (not-suc-le-zero h)
-weight-small (suc k) (b ∷ l) h =
-    let r : weight l < 2 ^ k = weight-small k l (le-of-suc-le-suc h) in
-    let q : 2 ^ suc k ≡ 2 * 2 ^ k = pow-succ' 2 k in
-    rw q (go b r)
-  where
-    go : (b : Bool) → weight l < 2 ^ k → bit b + 2 * weight l < 2 * 2 ^ k
-    go true r = omega arith
-    go false r = omega arith

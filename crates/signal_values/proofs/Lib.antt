@@ -1,0 +1,4 @@
+pub mod Bits
+pub mod Bounds
+pub mod Turns
+pub mod Deciding
