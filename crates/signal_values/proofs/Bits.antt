@@ -1,13 +1,15 @@
 -- The words' low bits: where a signal's value stands, and how it is read.
-use mathlib.Core.Path.{_≡_, ap, _∙_}
-use Prim.Native.Nat.{ℕ, _+_, _*_, _/_, _%_, _<_}
+use mathlib.Core.Path.{_≡_, refl, ap, _∙_}
+use Prim.Native.Nat.{ℕ, _+_, _*_, _/_, _%_, _<_, min}
+use native.Mathlib.Nat.{zero-min}
 use native.Mathlib.Omega.{arith}
 use native.Mathlib.Decide.{ℕ-discrete}
+use mathlib.Core.Bool.{Bool, true, false, _&&_}
 use mathlib.Core.List.{List}
 use lib.Dec.{eqb}
-use lib.Bits.{bitAnd, bitXor, and-mask, xor-step, differ}
+use lib.Bits.{bitAnd, bitXor, and-mask, and-step, xor-step, differ}
 use borrow.Author.Tests.{eq-eqb, ne-eqb}
-use Rattle.laws.specs.Bools.{xor}
+use Rattle.laws.specs.Bools.{xor, bit}
 use Rattle.model.specs.Signal.{isInverted}
 use Rattle.tables.specs.Layout.{cell}
 use Rattle.signal_values.specs.Signals.{valuesBase, slot, isOdd, valueAt}
@@ -47,7 +49,36 @@ parity x s =
           ]
     ]
 
--- what `value` reads
-pub reads-value : (t : List ℕ) (s i x : ℕ) → i ≡ slot s → x ≡ cell t valuesBase i → eqb (bitAnd (bitXor x s) 1) 1 ≡ valueAt t s
+-- the conjunction's low bit
+pub parity-and : (x y : ℕ) → isOdd (bitAnd x y) ≡ isOdd x && isOdd y
+parity-and x y =
+    let e : bitAnd x y ≡ bitAnd (x / 2) (y / 2) * 2 + min (x % 2) (y % 2) = and-step x y in
+    elim (ℕ-discrete (x % 2) 1) [
+      | yes p ↦ elim (ℕ-discrete (y % 2) 1) [
+        | yes q ↦ let d : min (x % 2) (y % 2) ≡ 1 = rw (p, q) in rw (p, q) (eq-eqb (bitAnd x y % 2) 1 (omega arith))
+        | no q ↦
+            let z : y % 2 ≡ 0 = omega arith in
+            let d : min (x % 2) (y % 2) ≡ 0 = rw (p, z) in
+            rw (p, z) (ne-eqb (bitAnd x y % 2) 1 (omega arith))
+      ]
+      | no p ↦
+          let w : x % 2 ≡ 0 = omega arith in
+          let d : min (x % 2) (y % 2) ≡ 0 = rw w (zero-min (y % 2)) in
+          rw w (ne-eqb (bitAnd x y % 2) 1 (omega arith))
+    ]
+
+-- a word that is a truth value's
+pub odd-bit : (b : Bool) → isOdd (bit b) ≡ b
+odd-bit true = refl
+odd-bit false = refl
+
+pub bit-odd : (r : ℕ) (b c : Bool) → r ≡ bit b → b ≡ c → isOdd r ≡ c
+bit-odd r b c p q = ap isOdd p ∙ odd-bit b ∙ q
+
+-- what `value_word` and `value` read
+pub reads-word : (t : List ℕ) (s i x : ℕ) → i ≡ slot s → x ≡ cell t valuesBase i → isOdd (bitXor x s) ≡ valueAt t s
 unfolding valueAt
-reads-value t s i x p q = mask-odd (bitXor x s) ∙ parity x s ∙ rw (q, p)
+reads-word t s i x p q = parity x s ∙ rw (q, p)
+
+pub reads-value : (t : List ℕ) (s w : ℕ) → isOdd w ≡ valueAt t s → eqb (bitAnd w 1) 1 ≡ valueAt t s
+reads-value t s w e = mask-odd w ∙ e

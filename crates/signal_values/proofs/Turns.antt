@@ -16,7 +16,7 @@ use Rattle.laws.proofs.Tabs.{length-tab, drop-tab}
 use Rattle.model.specs.Evaluate.{weight}
 use Rattle.tables.specs.Layout.{inputAt}
 use Rattle.signal_values.specs.Signals.{valuesEnd, slot, valueAt, inputValue, onesTo}
-use Rattle.signal_values.proofs.Bits.{mask-slot, slot-below, reads-value}
+use Rattle.signal_values.proofs.Bits.{mask-slot, slot-below, reads-word, reads-value}
 use Rattle.signal_values.proofs.Bounds.{ones-most, weight-small}
 
 -- ---- a signal's value
@@ -104,4 +104,4 @@ module _ (f t : List ℕ) (first : ℕ) where
   pub weight-all : (w j count : ℕ) → Weight w j count → j ≤ 0 → w ≡ weight (tab (inputValue f t first) count)
   weight-all w j count h l = let e : j ≡ 0 = omega arith in h .sum ∙ rw e
 
-pub ruleset turns = (slot-inside, slot-is, reads-value, ones-none, ones-fits, ones-more, ones-all, weight-none, weight-twice, weight-fits, weight-more, weight-all)
+pub ruleset turns = (slot-inside, slot-is, reads-word, reads-value, ones-none, ones-fits, ones-more, ones-all, weight-none, weight-twice, weight-fits, weight-more, weight-all)

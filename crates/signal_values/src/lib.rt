@@ -9,7 +9,7 @@ ghost use Rattle.laws.specs.Bools.{bit};
 ghost use Rattle.laws.specs.Lists.{tab};
 ghost use Rattle.model.specs.Evaluate.{weight};
 ghost use Rattle.tables.specs.Layout.{netSize};
-ghost use Rattle.signal_values.specs.Signals.{valuesEnd, slot, valueAt, inputValue, onesTo, dffAt, Reads};
+ghost use Rattle.signal_values.specs.Signals.{valuesEnd, slot, isOdd, valueAt, inputValue, onesTo, dffAt, Reads};
 use kinds::is_flip_flop_code;
 use tables::layout::input_at;
 use tables::layout::kind_at;
@@ -32,12 +32,20 @@ fn slot(s: u32) -> usize
     wide((s >> 1) & 2047)
 }
 
+// A signal's value as a word of which the lowest bit counts alone: the next gate waits for no mask.
+pub fn value_word(to: &[u32], s: u32) -> u32
+    requires { ⌜ valuesEnd ≤ length (now to) ⌝ }
+    ensures { λ r. ⌜ isOdd r ≡ valueAt (now (to .entry)) s ⌝ }
+{
+    let x = word(to, VALUES, slot(s));
+    x ^ s
+}
+
 pub fn value(to: &[u32], s: u32) -> bool
     requires { ⌜ valuesEnd ≤ length (now to) ⌝ }
     ensures { λ r. ⌜ r ≡ valueAt (now (to .entry)) s ⌝ }
 {
-    let x = word(to, VALUES, slot(s));
-    (x ^ s) & 1 == 1
+    value_word(to, s) & 1 == 1
 }
 
 // How many of a gate's inputs are one.

@@ -8,34 +8,42 @@ use native.Mathlib.Numerals.{add-one}
 use mathlib.Core.Bool.{Bool, true, false, not, cond, Bool·beq, _&&_}
 use mathlib.Core.List.{List}
 use lib.Dec.{eqb, ltb}
-use lib.Bits.{bitAnd}
+use lib.Bits.{bitAnd, bitXor}
 use borrow.Author.Tests.{eq-eqb, ne-eqb, eqb-true, lt-ltb}
 use Rattle.kinds.specs.declared.Kind.{Kind}
 use Rattle.kinds.specs.declared.Kind.the-variants.{And2, Xor2, OrN, Buf}
-use Rattle.laws.specs.Bools.{bit}
+use Rattle.laws.specs.Bools.{xor, bit}
 use Rattle.laws.proofs.Bools.{taut1, taut2}
+use Rattle.model.specs.Signal.{isInverted}
 use Rattle.model.specs.Gate.{fitsKind}
 use Rattle.tables.specs.Layout.{inputAt}
 use Rattle.signal_values.specs.Signals.{isOdd, valueAt, inputValue, onesTo, Reads}
 use Rattle.values.specs.Values.{onesValue}
-use Rattle.signal_values.proofs.Bits.{mask-odd}
+use Rattle.signal_values.proofs.Bits.{mask-odd, parity, parity-and}
 use Rattle.signal_values.proofs.Turns.{input-is, input-first}
 
 module _ (f t : List ℕ) (first : ℕ) where
   -- ---- the short gates
 
-  pub buf-is : (x : ℕ) (a : Bool) → x ≡ inputAt f first → a ≡ valueAt t x → a ≡ ltb 0 (onesTo (inputValue f t first) 1)
+  pub buf-is : (x u : ℕ) → x ≡ inputAt f first → isOdd u ≡ valueAt t x → isOdd u ≡ ltb 0 (onesTo (inputValue f t first) 1)
   unfolding onesTo
-  buf-is x a p q = taut1 (λ a. a) (λ a. ltb 0 (0 + bit a)) tt a ∙ rw (← input-first f t first x a p q)
+  buf-is x u p q = taut1 (λ a. a) (λ a. ltb 0 (0 + bit a)) tt (isOdd u) ∙ ap (λ a. ltb 0 (0 + bit a)) (input-first f t first x (isOdd u) p q)
 
-  module _ (x y : ℕ) (a b : Bool) (p : x ≡ inputAt f first) (q : a ≡ valueAt t x) (r : y ≡ inputAt f (first + 1)) (s : b ≡ valueAt t y) where
-    pub and-2-is : (a && b) ≡ eqb (onesTo (inputValue f t first) 2) 2
-    unfolding onesTo
-    and-2-is = taut2 (λ a b. a && b) (λ a b. eqb (0 + bit a + bit b) 2) tt a b ∙ rw (← input-first f t first x a p q, ← input-is f t first 1 y b r s)
+  module _ (x y u w : ℕ) (p : x ≡ inputAt f first) (q : isOdd u ≡ valueAt t x) (r : y ≡ inputAt f (first + 1)) (s : isOdd w ≡ valueAt t y) where
+    -- by the words of both, whatever is asked of their values
+    both : (h k : Bool → Bool → Bool) → ((a b : Bool) → h a b ≡ k a b) → h (isOdd u) (isOdd w) ≡ k (inputValue f t first 0) (inputValue f t first 1)
+    both h k e =
+        e (isOdd u) (isOdd w)
+        ∙ ap (λ a. k a (isOdd w)) (input-first f t first x (isOdd u) p q)
+        ∙ ap (k (inputValue f t first 0)) (input-is f t first 1 y (isOdd w) r s)
 
-    pub xor-2-is : not (Bool·beq a b) ≡ isOdd (onesTo (inputValue f t first) 2)
+    pub and-2-is : isOdd (bitAnd u w) ≡ eqb (onesTo (inputValue f t first) 2) 2
     unfolding onesTo
-    xor-2-is = taut2 (λ a b. not (Bool·beq a b)) (λ a b. isOdd (0 + bit a + bit b)) tt a b ∙ rw (← input-first f t first x a p q, ← input-is f t first 1 y b r s)
+    and-2-is = parity-and u w ∙ both (λ a b. a && b) (λ a b. eqb (0 + bit a + bit b) 2) (taut2 (λ a b. a && b) (λ a b. eqb (0 + bit a + bit b) 2) tt)
+
+    pub xor-2-is : isOdd (bitXor u w) ≡ isOdd (onesTo (inputValue f t first) 2)
+    unfolding onesTo isInverted
+    xor-2-is = parity u w ∙ both (λ a b. xor b a) (λ a b. isOdd (0 + bit a + bit b)) (taut2 (λ a b. xor b a) (λ a b. isOdd (0 + bit a + bit b)) tt)
 
   pub odd-is : (n count : ℕ) → n ≡ onesTo (inputValue f t first) count → eqb (bitAnd n 1) 1 ≡ isOdd (onesTo (inputValue f t first) count)
   odd-is n count e = mask-odd n ∙ ap isOdd e
