@@ -32,14 +32,12 @@ use Rattle.tables.specs.Layout.{kindAt, firstAt, countAt, inputAt, lowAt, highA
 use Rattle.tables.proofs.Places.{length-store, cell-store, cell-store-other}
 use Rattle.signal_values.specs.Signals.{valuesBase, valuesEnd, slot, isOdd, valueAt, inputValue, dffAt}
 use Rattle.values.specs.Values.{gateValueAt, shownAt}
+use Rattle.signal_values.proofs.Bits.{odd-bit}
 use Rattle.cycle_checks.specs.Checks.{inputsTo}
 use Rattle.flip_flops.specs.Storing.{newState, newByte}
 use Rattle.evaluate.specs.Passes.{forwardTo, outputByte}
 use Rattle.evaluate.proofs.Numbers.{dff-is}
-
-odd-bit : (b : Bool) → isOdd (bit b) ≡ b
-odd-bit true = refl
-odd-bit false = refl
+use Rattle.evaluate.proofs.Same.{value-store, value-other, length-values}
 
 -- the values of i inputs and of the nodes below k
 pub record Valued (t : List ℕ) (i k : ℕ) (inp v : ℕ → Bool) : Type 0 where
@@ -80,15 +78,6 @@ module _ (t : List ℕ) (i k : ℕ) (inp v : ℕ → Bool) (h : Valued t i k inp
   value-is s e = ap (xor (isInverted s)) (stored-is s e)
 
 -- ---- stores
-
-value-store : (t : List ℕ) (p x : ℕ) → valuesEnd ≤ length t → p < 2048 → cell (store t valuesBase p x) valuesBase p ≡ x
-value-store t p x h l = cell-store t valuesBase p x (omega arith)
-
-value-other : (t : List ℕ) (p x q : ℕ) → q ≢ p → cell (store t valuesBase p x) valuesBase q ≡ cell t valuesBase q
-value-other t p x q d = cell-store-other t valuesBase p x valuesBase q (λ e. d (let z : q ≡ p = omega arith in z))
-
-length-values : (t : List ℕ) (p x : ℕ) → valuesEnd ≤ length t → valuesEnd ≤ length (store t valuesBase p x)
-length-values t p x h = rw length-store h
 
 module _ (inp v : ℕ → Bool) where
   pub valued-none : (t : List ℕ) → valuesEnd ≤ length t → Valued (store t valuesBase 0 0) 0 0 inp v

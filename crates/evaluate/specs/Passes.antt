@@ -4,9 +4,13 @@ use Prim.Native.Nat.{ℕ, zero, suc, _+_, _≤_}
 use mathlib.Core.List.{List}
 use lib.ListN.{length}
 use Rattle.laws.specs.Bools.{bit}
-use Rattle.tables.specs.Layout.{netSize, outputAt, store}
-use Rattle.signal_values.specs.Signals.{valuesBase, valuesEnd, valueAt}
+use Rattle.tables.specs.Layout.{netSize, outputAt, cell, store}
+use Rattle.signal_values.specs.Signals.{valuesBase, valuesEnd, isOdd, valueAt}
 use Rattle.values.specs.Values.{shownAt}
+
+-- tables with the same values: of each word the lowest bit counts alone
+pub record SameValues (t t′ : List ℕ) : Type 0 where
+  pub same : (k : ℕ) → isOdd (cell t valuesBase k) ≡ isOdd (cell t′ valuesBase k)
 
 -- the nodes' values put down by the forward pass
 unfoldable pub forwardTo : List ℕ → List ℕ → List ℕ → ℕ → List ℕ

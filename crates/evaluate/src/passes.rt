@@ -3,23 +3,23 @@ ghost use mathlib.Core.Path.{_≡_};
 ghost use Rattle.laws.specs.Lists.{tab};
 ghost use Rattle.model.specs.Answers.{laidOver};
 ghost use Rattle.flip_flops.specs.Storing.{Passing};
-ghost use Rattle.evaluate.specs.Passes.{forwardTo, outputByte, Putting};
+ghost use Rattle.evaluate.specs.Passes.{SameValues, forwardTo, outputByte, Putting};
 use flip_flops::byte_if;
 use signal_values::VALUES;
 use signal_values::one_if;
 use signal_values::value;
 use tables::layout::output_at;
 use tables::scratch::put_word;
-use values::node_value;
+use values::node_word;
 
 // The forward pass: each node's value, by the values of the nodes before it.
 pub fn forward(from: &[u32], to: &mut [u32], state: &[u8], n: usize)
     requires { ⌜ Passing (now from) (now to) (now state) n ⌝ }
-    ensures { λ _. ⌜ now (to .exit) ≡ forwardTo (now (from .entry)) (now (state .entry)) (now (to .entry)) n ⌝ }
+    ensures { λ _. ⌜ SameValues (now (to .exit)) (forwardTo (now (from .entry)) (now (state .entry)) (now (to .entry)) n) ⌝ }
 {
     let mut v: usize = 0;
     while v < n {
-        put_word(to, VALUES, v + 1, one_if(node_value(from, to, state, v)));
+        put_word(to, VALUES, v + 1, node_word(from, to, state, v));
         v += 1;
     }
 }

@@ -1,4 +1,4 @@
--- The loop keeps the words as `forwardTo` has them.
+-- The loop keeps the values as `forwardTo` has them.
 use Prim.Native.Nat.{_-_}
 use Rattle.evaluate.proofs.Turns.{Forwarded, forwarded-more, turns}
 use borrow.Author.Needs.{needs}
@@ -12,7 +12,7 @@ abbrev μ-loop : tie.MeasureT-loop
 μ-loop from to₀ state n v₀ to v = n - v
 
 loop-again : tie.Need-loop-again Inv-loop μ-loop
-loop-again c = forwarded-more _ _ _ _ _ _ (c .before .before .before .before .before .before .before .before .loop .inv) _ _ _ (c .before .before .before .before .before .before .before .loop-test .taken) (c .before .before .before .before .node-value .ensures) (c .before .before .before .one-if .ensures) (c .before .before .put-word .ensures)
+loop-again c = forwarded-more _ _ _ _ _ _ (c .before .before .before .before .before .before .before .loop .inv) _ _ (c .before .before .before .before .before .before .before .before .before .before .before .pre) (c .before .before .before .before .before .before .loop-test .taken) (c .before .before .before .node-word .ensures) (c .before .before .put-word .ensures)
 
 pub forward-spec : {M : Type 1} → statement M
 forward-spec =
@@ -23,7 +23,6 @@ forward-spec =
     (λ c. search (needs, turns))
     (λ c. search (needs, turns))
     (λ c κs. (search (needs, turns), search (needs, turns)))
-    (λ c κs. search needs)
     (λ c κs. search (needs, turns))
     (λ c. search (needs, turns))
     (λ c. search (needs, turns))
