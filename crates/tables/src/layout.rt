@@ -2,9 +2,10 @@
 ghost use mathlib.Core.Path.{_≡_};
 ghost use Prim.Native.Nat.{ℕ, _+_, _-_, _*_, _<_, _≤_};
 ghost use lib.ListN.{length};
-ghost use Rattle.model.specs.Answers.{areasShort, cleared};
+ghost use Rattle.model.specs.Answers.{areasShort};
 ghost use Rattle.tables.specs.Working.{Areas, Cleared};
 ghost use Rattle.tables.specs.Layout.{netSize, kindIx, firstIx, countIx, kindAt, firstAt, countAt, inputAt, lowAt, highAt, outputAt, putGate, putInput, putTable, putOutput};
+use clearing::clear;
 
 const INS: usize = 1536;
 
@@ -131,18 +132,6 @@ pub fn areas_short(a: &[u32], b: &[u32]) -> bool
     ensures { λ r. ⌜ r ≡ areasShort (now (a .entry)) (now (b .entry)) ⌝ }
 {
     (a.len() < 16384) | (b.len() < 16384)
-}
-
-// The first 16,384 words of an area, zero; the rest as found.
-pub fn clear(area: &mut [u32])
-    requires { ⌜ 16384 ≤ length (now area) ⌝ }
-    ensures { λ _. ⌜ now (area .exit) ≡ cleared (now (area .entry)) ⌝ }
-{
-    let mut i: usize = 0;
-    while i < 16384 {
-        area[i] = 0;
-        i += 1;
-    }
 }
 
 // Both areas, once the work is done.
