@@ -6,7 +6,6 @@ ghost use Rattle.flip_flops.specs.Storing.{Passing};
 ghost use Rattle.evaluate.specs.Passes.{SameValues, forwardTo, outputByte, Putting};
 use flip_flops::byte_if;
 use signal_values::VALUES;
-use signal_values::one_if;
 use signal_values::value;
 use tables::layout::output_at;
 use tables::scratch::put_word;
