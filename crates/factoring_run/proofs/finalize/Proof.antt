@@ -1,8 +1,8 @@
 -- `finalize`: each need by its law.
 use borrow.Author.Needs.{needs}
-use Rattle.factor_gates.proofs.Passings.{finals}
-use Rattle.factor_gates.proofs.pass.finalize.Statement.{statement}
-use Rattle.factor_gates.proofs.pass.finalize.Tie as tie
+use Rattle.factoring_run.proofs.Runs.{finals}
+use Rattle.factoring_run.proofs.finalize.Statement.{statement}
+use Rattle.factoring_run.proofs.finalize.Tie as tie
 
 pub finalize-spec : {M : Type 1} → statement M
 finalize-spec =

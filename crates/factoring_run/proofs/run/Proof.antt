@@ -1,8 +1,8 @@
 -- `run`: each need by its law.
 use borrow.Author.Needs.{needs}
-use Rattle.factor_gates.proofs.Passings.{runs}
-use Rattle.factor_gates.proofs.pass.run.Statement.{statement}
-use Rattle.factor_gates.proofs.pass.run.Tie as tie
+use Rattle.factoring_run.proofs.Runs.{runs}
+use Rattle.factoring_run.proofs.run.Statement.{statement}
+use Rattle.factoring_run.proofs.run.Tie as tie
 
 pub run-spec : {M : Type 1} → statement M
 run-spec =

@@ -1,8 +1,8 @@
 -- `load_lists`: each need by its law.
 use borrow.Author.Needs.{needs}
-use Rattle.factor_gates.proofs.Passings.{loads}
-use Rattle.factor_gates.proofs.pass.load_lists.Statement.{statement}
-use Rattle.factor_gates.proofs.pass.load_lists.Tie as tie
+use Rattle.factoring_run.proofs.Runs.{loads}
+use Rattle.factoring_run.proofs.load_lists.Statement.{statement}
+use Rattle.factoring_run.proofs.load_lists.Tie as tie
 
 pub load-lists-spec : {M : Type 1} → statement M
 load-lists-spec =

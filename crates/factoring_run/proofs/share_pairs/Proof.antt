@@ -1,8 +1,8 @@
 -- `share_pairs`: each need by its law.
 use borrow.Author.Needs.{needs}
-use Rattle.factor_gates.proofs.Passings.{shares}
-use Rattle.factor_gates.proofs.pass.share_pairs.Statement.{statement}
-use Rattle.factor_gates.proofs.pass.share_pairs.Tie as tie
+use Rattle.factoring_run.proofs.Runs.{shares}
+use Rattle.factoring_run.proofs.share_pairs.Statement.{statement}
+use Rattle.factoring_run.proofs.share_pairs.Tie as tie
 
 pub share-pairs-spec : {M : Type 1} → statement M
 share-pairs-spec =

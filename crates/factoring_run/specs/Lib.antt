@@ -1,0 +1,2 @@
+-- What the contracts of `factoring_run` cite.
+pub mod Running
