@@ -13,7 +13,8 @@ use Rattle.laws.specs.Lists.{tab}
 use Rattle.model.specs.Sharing.{allPairs, consumeBinaryGates, exclusiveSignals, factoring, giveBack, joinGates, once, retain, sharedSignals}
 use Rattle.pairs.specs.Lists.{Laid, leftAt, listAt, listsOf, pairAt, startAt}
 use Rattle.pairs.specs.States.{Ready, stateOf}
-use Rattle.uses.specs.Loading.{Between, Givable, GivenBack, Loadable, Marked, SameLists, Separated, listsIn}
+use Rattle.give_back.specs.Giving.{Givable, GivenBack}
+use Rattle.uses.specs.Loading.{Between, Loadable, Marked, SameLists, Separated, listsIn}
 use Rattle.growth.proofs.Wholes.{source-of}
 use Rattle.factoring.proofs.Rounds.{built-gates}
 use Rattle.factoring.proofs.Turns.{placed-here, placed-on, ready-next, went-full, went-le, went-over, went-placed, went-state}

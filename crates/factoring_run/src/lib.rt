@@ -8,10 +8,10 @@ use factoring::greedy::Built;
 use factoring::greedy::consume_binary_gates;
 use factoring::greedy::consume_pairs;
 use factoring::join::join_gates;
+use give_back::give_back;
 use kinds::Family;
 use tables::counts::Counts;
 use uses::count::count_signal_usage;
-use uses::load::give_back;
 use uses::load::separate_exclusive_signals;
 
 // consume_pairs: while a pair remains.

@@ -4,4 +4,3 @@ pub mod Tallies
 pub mod Walks
 pub mod Picking
 pub mod Loads
-pub mod Givings

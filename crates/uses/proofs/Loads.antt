@@ -1,4 +1,4 @@
--- Laws of separate_exclusive_signals and give_back: what putting signals behind one list does to all lists.
+-- Laws of separate_exclusive_signals: what putting signals behind one list does to all lists.
 use Prim.Native.Nat.{ℕ, _+_, _<_, _≤_}
 use mathlib.Core.Path.{ap, refl, sym, _∙_, _≡_}
 use mathlib.Core.Logic.{inl, inr, _≢_, _⊎_}
@@ -11,7 +11,7 @@ use mir.Syntax.{w32, w64}
 use mir.Val.{Fits}
 use lib.ListN.{getD, length, length-append}
 use lib.Seq.{ext-getD}
-use borrow.Author.Tests.{not-false, not-true}
+use borrow.Author.Tests.{not-true}
 use Rattle.laws.specs.Lists.{tab}
 use Rattle.model.specs.Sharing.{once, retain, sharedSignals, takes}
 use Rattle.pairs.specs.Lists.{areaSize, leftAt, listAt, listsOf, putLeft, putList, putStart, sigAt, startAt}
@@ -24,7 +24,7 @@ use Rattle.pairs.proofs.Gates.{front-ext, front-is, length-list}
 use Rattle.pairs.proofs.Places.{leftAt-putLeft, leftAt-putLeft-other, leftAt-putList, leftAt-putStart, length-putLeft, length-putList, length-putStart, sigAt-putLeft, sigAt-putList, sigAt-putList-after, sigAt-putList-before, sigAt-putStart, startAt-putLeft, startAt-putList, startAt-putStart, startAt-putStart-other, usedAt-putLeft, usedAt-putStart}
 use Rattle.tables.proofs.Holding.{length-insAt}
 use Rattle.uses.proofs.Picking.{once-putList, retain-ext, retain-le}
-use Rattle.uses.proofs.Slots.{list-here, list-there, lists-few, lists-next, lists-none, lists-skip, slot-apart, slot-next, slot-none, slot-room}
+use Rattle.uses.proofs.Slots.{lists-few, lists-next, lists-none, lists-skip, met, met-here, met-there, slot-apart, slot-next, slot-none, slot-room}
 use Rattle.uses.proofs.Tallies.{ix-small}
 use Rattle.uses.proofs.Walks.{ins-named, source-few, source-more}
 use Rattle.kinds.specs.declared.Family.{Family}
@@ -162,14 +162,11 @@ module _ (f : Family) (from l₀ l : List ℕ) (n v i at : ℕ) (inv : Loading f
       }
 
   module _ (t : Bool) (et : t ≡ takes f (gateAt from v)) (q : not t ≡ false) where
-    taken-here : takes f (gateAt from v) ≡ true
-    taken-here = sym et ∙ not-false t q
-
     here : getD (listsIn f from n) i [] ≡ insAt from v
-    here = rw (inv .gates) (list-here f from v n h taken-here)
+    here = met-here f from v n h t et q i (inv .gates)
 
     there : i < length (listsIn f from n)
-    there = rw (inv .gates) (list-there f from v n h taken-here)
+    there = met-there f from v n h t et q i (inv .gates)
 
     few : length (listsIn f from n) ≤ 512
     few = omega (arith, lists-few f from n, source .few)
@@ -215,7 +212,7 @@ module _ (f : Family) (from l₀ l : List ℕ) (n v i at : ℕ) (inv : Loading f
         (record {
           upto = h;
           same = ap length (sym em) ∙ len ∙ inv .same;
-          gates = rw (lists-next f from v taken-here, length-append) (omega (arith, inv .gates));
+          gates = rw (lists-next f from v (met f from v n h t et q), length-append) (omega (arith, inv .gates));
           place = omega (arith, slot-next (listsIn f from n) i there, inv .place, ap length here, length-insAt from v);
           starts = λ w k. elim (ℕ-discrete w i) [
             | yes e ↦ rw e (W .start ∙ inv .place)

@@ -1,13 +1,14 @@
 -- The gates of a pass among the nodes of a network, and where their lists start.
 use Prim.Native.Nat.{suc, zero, ℕ, _+_, _-_, _<_, _≤_}
 use mathlib.Core.Path.{ap, refl, sym, _∙_, _≡_}
-use mathlib.Core.Bool.{Bool, false, true, _&&_}
+use mathlib.Core.Bool.{Bool, false, not, true, _&&_}
 use mathlib.Core.List.{List, [], append-assoc, append-nil, _++_, _∷_}
 use native.Mathlib.Omega.{arith}
 use native.Mathlib.Nat.{le-refl}
 use lib.ListN.{getD, length, length-append, take}
 use lib.Seq.{getD-at}
 use lib.Dec.{ltb}
+use borrow.Author.Tests.{not-false}
 use Rattle.kinds.specs.Kinds.{inFamily, kindOf}
 use Rattle.model.specs.Gate.{Gate, fanin}
 use Rattle.model.specs.Sharing.{taken, takes, total}
@@ -61,17 +62,28 @@ rest-to f l v n h = let e : n ≡ (n - v) + v = omega arith in rw e (lists-rest 
 
 -- node v, if it is a gate of the pass, is the next one
 module _ (f : Family) (l : List ℕ) (v n : ℕ) (h : v < n) (t : takes f (gateAt l v) ≡ true) where
-  pub list-here : getD (listsIn f l n) (length (listsIn f l v)) [] ≡ insAt l v
+  list-here : getD (listsIn f l n) (length (listsIn f l v)) [] ≡ insAt l v
   list-here = go (rest-to f l (suc v) n h)
     where
       go : Rest f l (suc v) n → getD (listsIn f l n) (length (listsIn f l v)) [] ≡ insAt l v
       go (r, e) = rw (e, lists-next f l v t, append-assoc) (getD-at (listsIn f l v) (insAt l v) r [] (length (listsIn f l v)) refl)
 
-  pub list-there : length (listsIn f l v) < length (listsIn f l n)
+  list-there : length (listsIn f l v) < length (listsIn f l n)
   list-there = go (rest-to f l (suc v) n h)
     where
       go : Rest f l (suc v) n → length (listsIn f l v) < length (listsIn f l n)
       go (r, e) = rw (e, lists-next f l v t, length-append, length-append) (omega arith)
+
+-- the turn of a loop that meets a gate of the pass
+module _ (f : Family) (l : List ℕ) (v n : ℕ) (h : v < n) (t : Bool) (et : t ≡ takes f (gateAt l v)) (q : not t ≡ false) where
+  pub met : takes f (gateAt l v) ≡ true
+  met = sym et ∙ not-false t q
+
+  pub met-here : (i : ℕ) → i ≡ length (listsIn f l v) → getD (listsIn f l n) i [] ≡ insAt l v
+  met-here i e = rw e (list-here f l v n h met)
+
+  pub met-there : (i : ℕ) → i ≡ length (listsIn f l v) → i < length (listsIn f l n)
+  met-there i e = rw e (list-there f l v n h met)
 
 -- ---- slots
 

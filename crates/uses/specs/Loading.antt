@@ -1,12 +1,12 @@
--- From a network in one area to the lists of a pass in another, and what was set aside back again.
+-- From a network in one area to the lists of a pass in another.
 use Prim.Native.Nat.{ℕ, _+_, _<_, _≤_}
 use mathlib.Core.Path.{_≡_}
-use mathlib.Core.Bool.{Bool, false, not}
+use mathlib.Core.Bool.{Bool, false}
 use mathlib.Core.List.{List, [], _∷_}
-use lib.ListN.{getD, length, take}
+use lib.ListN.{length, take}
 use Rattle.model.specs.Gate.{fanin}
-use Rattle.model.specs.Sharing.{exclusiveSignals, giveBack, once, retain, sharedSignals, taken, total}
-use Rattle.pairs.specs.Lists.{Laid, areaSize, leftAt, listsOf, pairAt, putLeft, putList, putStart, sigAt, startAt}
+use Rattle.model.specs.Sharing.{once, retain, sharedSignals, taken, total}
+use Rattle.pairs.specs.Lists.{Laid, areaSize, leftAt, listsOf, putLeft, putList, putStart, sigAt, startAt}
 use Rattle.tables.specs.Layout.{countAt, firstAt, inputAt, insAt, netSize, nodesOf}
 use Rattle.uses.specs.Uses.{Named, isOnce, wanted}
 use Rattle.kinds.specs.declared.Family.{Family}
@@ -103,30 +103,3 @@ pub record Separated (gs : List (List ℕ)) (m : List ℕ) (g : ℕ) : Type 0 wh
   pub laid : Laid m g
   pub lists : listsOf m g ≡ sharedSignals gs
   pub starts : (w : ℕ) → w < g → startAt m w ≡ slot gs w
-
--- ---- giving back
-
--- list i has room behind it for what was set aside of node v
-pub record Gives (from l : List ℕ) (v i : ℕ) : Type 0 where
-  pub node : Node from v
-  pub long : areaSize ≤ length l
-  pub few : i < 512
-  pub room : startAt l i + leftAt l i + length (retain (isOnce l) (insAt from v)) ≤ 2048
-
-unfoldable pub givenIn : List ℕ → List ℕ → ℕ → ℕ → List ℕ
-givenIn from l v i =
-    let p = retain (isOnce l) (insAt from v) in
-    putLeft (putList l (startAt l i + leftAt l i) p) i (leftAt l i + length p)
-
--- each list is where it was loaded, and no longer than what was shared of it
-pub record Givable (gs : List (List ℕ)) (from to : List ℕ) (n : ℕ) : Type 0 where
-  pub between : Between from to n
-  pub counted : Says gs to
-  pub starts : (w : ℕ) → w < length gs → startAt to w ≡ slot gs w
-  pub short : (w : ℕ) → w < length gs → leftAt to w ≤ length (retain (λ x. not (once gs x)) (getD gs w []))
-
--- the pairs of the new nodes stay
-pub record GivenBack (gs : List (List ℕ)) (l m : List ℕ) : Type 0 where
-  pub laid : Laid m (length gs)
-  pub lists : listsOf m (length gs) ≡ giveBack (listsOf l (length gs)) (exclusiveSignals gs)
-  pub pairs : (v : ℕ) → length gs ≤ v → v < 512 → pairAt m v ≡ pairAt l v

@@ -1,10 +1,9 @@
-// separate_exclusive_signals: the lists of the gates' signals, but for those used once; and those given back.
+// separate_exclusive_signals: the lists of the gates' signals, but for those used once.
 ghost use mathlib.Core.Path.{_≡_};
-ghost use Prim.Native.Nat.{ℕ, _+_, _*_, _-_, _/_, _<_, _≤_};
-ghost use lib.ListN.{length};
+ghost use Prim.Native.Nat.{_+_, _*_, _-_, _/_, _<_, _≤_};
 ghost use Rattle.model.specs.Sharing.{placesOf};
 ghost use Rattle.pairs.specs.Lists.{listsOf, Laid};
-ghost use Rattle.uses.specs.Loading.{One, Stored, Picks, Picked, Loads, loadedIn, Gives, givenIn, Loadable, listsIn, Separated, Givable, GivenBack};
+ghost use Rattle.uses.specs.Loading.{One, Stored, Picks, Picked, Loads, loadedIn, Loadable, listsIn, Separated};
 use crate::count::is_once;
 use crate::count::takes;
 use kinds::Family;
@@ -12,7 +11,6 @@ use pairs::lists::left_at;
 use pairs::lists::put_left;
 use pairs::lists::put_sig;
 use pairs::lists::put_start;
-use pairs::lists::start_at;
 use tables::layout::count_at;
 use tables::layout::first_at;
 use tables::layout::input_at;
@@ -30,7 +28,7 @@ fn pick_one(to: &mut [u32], k: usize, s: u32, once: bool) -> usize
 }
 
 // Copies those signals of node v that are used once, or the others, to place at and on; how many they are.
-fn pick_signals(from: &[u32], to: &mut [u32], v: usize, at: usize, once: bool) -> usize
+pub fn pick_signals(from: &[u32], to: &mut [u32], v: usize, at: usize, once: bool) -> usize
     requires { ⌜ Picks (now from) (now to) v at once ⌝ }
     ensures { λ r. ⌜ Picked (now (from .entry)) (now (to .entry)) (now (to .exit)) v at once r ⌝ }
 {
@@ -99,33 +97,4 @@ pub fn pair_places(to: &[u32], g: usize) -> usize
         i += 1;
     }
     t
-}
-
-// Behind what is left of list i, the signals of node v that are used once.
-fn give_gate(from: &[u32], to: &mut [u32], v: usize, i: usize)
-    requires { ⌜ Gives (now from) (now to) v i ⌝ }
-    ensures { λ _. ⌜ now (to .exit) ≡ givenIn (now (from .entry)) (now (to .entry)) v i ⌝ }
-{
-    let f = start_at(to, i);
-    let m = left_at(to, i);
-    let w = pick_signals(from, to, v, f + m, true);
-    put_left(to, i, (m + w) as u32);
-}
-
-// Each gate gets its set-aside signals back at its end.
-pub fn give_back(from: &[u32], to: &mut [u32], n: usize, f: Family)
-    requires { ⌜ Givable (listsIn f (now from) n) (now from) (now to) n ⌝ }
-    ensures { λ _. ⌜ GivenBack (listsIn f (now (from .entry)) n) (now (to .entry)) (now (to .exit)) ⌝ }
-{
-    let mut i: usize = 0;
-    let mut v: usize = 0;
-    while v < n {
-        if !takes(from, f, v) {
-            v += 1;
-            continue;
-        }
-        give_gate(from, to, v, i);
-        i += 1;
-        v += 1;
-    }
 }

@@ -2,9 +2,9 @@
 use Prim.Native.Nat.{_-_}
 use native.Mathlib.Omega.{arith}
 use borrow.Author.Needs.{needs}
-use Rattle.uses.proofs.Givings.{Giving, give-next, giveBacks}
-use Rattle.uses.proofs.load.give_back.Statement.{statement}
-use Rattle.uses.proofs.load.give_back.Tie as tie
+use Rattle.give_back.proofs.Givings.{Giving, give-next, giveBacks}
+use Rattle.give_back.proofs.give_back.Statement.{statement}
+use Rattle.give_back.proofs.give_back.Tie as tie
 
 abbrev Inv-loop : tie.InvT-loop
 Inv-loop from to₀ n f i₀ v₀ to i v = Giving f from to₀ to n v i

@@ -1,8 +1,8 @@
 -- `give_gate`: each need by its law.
 use borrow.Author.Needs.{needs}
-use Rattle.uses.proofs.Givings.{gateGives, gives-done}
-use Rattle.uses.proofs.load.give_gate.Statement.{statement}
-use Rattle.uses.proofs.load.give_gate.Tie as tie
+use Rattle.give_back.proofs.Givings.{gateGives, gives-done}
+use Rattle.give_back.proofs.give_gate.Statement.{statement}
+use Rattle.give_back.proofs.give_gate.Tie as tie
 
 returns : tie.Need-returns
 returns c = gives-done _ _ _ _ (c .before .before .before .before .before .before .before .before .before .before .before .before .before .before .pre) _ _ (c .before .before .before .before .before .before .before .before .before .before .start-at .ensures) (c .before .before .before .before .before .before .before .before .left-at .ensures) _ _ (c .before .before .before .before .before .before .pick-signals .ensures) _ (c .before .before .put-left .ensures)

@@ -11,21 +11,22 @@ use native.Mathlib.Decide.{decLt, ℕ-discrete}
 use mir.Syntax.{w32, w64}
 use mir.Val.{Fits}
 use lib.ListN.{getD, length, length-append}
-use borrow.Author.Tests.{not-false, not-true}
+use borrow.Author.Tests.{not-true}
 use Rattle.model.specs.Sharing.{exclusiveSignals, giveBack, once, retain, takes}
 use Rattle.pairs.specs.Lists.{areaSize, leftAt, listAt, listsOf, pairAt, putLeft, putList, startAt}
 use Rattle.tables.specs.Layout.{gateAt, insAt}
-use Rattle.uses.specs.Loading.{Givable, GivenBack, Gives, Picked, Picks, Says, givenIn, listsIn, slot}
+use Rattle.give_back.specs.Giving.{Givable, GivenBack, Gives, givenIn}
+use Rattle.uses.specs.Loading.{Picked, Picks, Says, listsIn, slot}
 use Rattle.uses.specs.Uses.{isOnce, wanted}
 use Rattle.laws.proofs.Lists.{getD-map-in, length-map}
 use Rattle.pairs.proofs.Gates.{front-append, front-ext, front-is, getD-lists, length-list, length-lists}
 use Rattle.pairs.proofs.Places.{leftAt-putLeft, leftAt-putLeft-other, leftAt-putList, length-putLeft, length-putList, sigAt-putLeft, sigAt-putList, sigAt-putList-before, startAt-putLeft, startAt-putList}
 use Rattle.pairs.proofs.Stated.{pair≡}
 use Rattle.shape.proofs.FactoringEnds.{getD-given, length-given, split-length}
 use Rattle.uses.proofs.Loads.{Written, lists-are, once-left, sharedOf, written-other, written-says}
 use Rattle.uses.proofs.Picking.{once-putList, retain-ext}
-use Rattle.uses.proofs.Slots.{list-here, list-there, lists-few, lists-next, lists-none, lists-skip, slot-apart, slot-room}
+use Rattle.uses.proofs.Slots.{lists-few, lists-next, lists-none, lists-skip, met, met-here, met-there, slot-apart, slot-room}
 use Rattle.uses.proofs.Walks.{ins-named, source-few, source-more}
 use Rattle.kinds.specs.declared.Family.{Family}
 
 -- ---- give_gate
@@ -153,14 +154,11 @@ module _ (f : Family) (from l₀ l : List ℕ) (n v i : ℕ) (inv : Giving f fro
         }
 
     module _ (t : Bool) (et : t ≡ takes f (gateAt from v)) (q : not t ≡ false) where
-      taken-here : takes f (gateAt from v) ≡ true
-      taken-here = sym et ∙ not-false t q
-
       here : getD (listsIn f from n) i [] ≡ insAt from v
-      here = rw (inv .gates) (list-here f from v n h taken-here)
+      here = met-here f from v n h t et q i (inv .gates)
 
       there : i < length (listsIn f from n)
-      there = rw (inv .gates) (list-there f from v n h taken-here)
+      there = met-there f from v n h t et q i (inv .gates)
 
       is-own-of : retain (isOnce l) (insAt from v) ≡ ownOf (listsIn f from n) i
       is-own-of = rw here (retain-ext (isOnce l) (once (listsIn f from n)) (insAt from v) (inv .counted .says) (ins-named from v (C .between .source .nodes v h)))
@@ -215,7 +213,7 @@ module _ (f : Family) (from l₀ l : List ℕ) (n v i : ℕ) (inv : Giving f fro
           (record {
             upto = h;
             same = ap length (sym em) ∙ len ∙ inv .same;
-            gates = rw (lists-next f from v taken-here, length-append) (omega (arith, inv .gates));
+            gates = rw (lists-next f from v (met f from v n h t et q), length-append) (omega (arith, inv .gates));
             starts = λ w k. elim (ℕ-discrete w i) [
               | yes e ↦ rw e (W .start ∙ inv .starts i there)
               | no e ↦ W .starts w (omega (arith, few)) e ∙ inv .starts w k

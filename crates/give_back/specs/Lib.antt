@@ -1,0 +1,2 @@
+-- What the contracts of `give_back` cite.
+pub mod Giving
