@@ -9,7 +9,7 @@ use native.Mathlib.Numerals.{add-one}
 use borrow.Author.Tests.{not-false, not-true}
 use Rattle.model.specs.Gate.{Gate}
 use Rattle.model.specs.Sharing.{anyRepeats, repeats, takes}
-use Rattle.repeats.specs.Reading.{Node, Nodes}
+use Rattle.repeats.specs.Reading.{Node, Nodes, repeatsRefusal}
 use Rattle.tables.specs.Holding.{Held}
 use Rattle.tables.specs.Layout.{gateAt, insAt, nodesOf}
 use Rattle.laws.proofs.Choices.{by-bool}
@@ -75,3 +75,14 @@ module _ (l : List ℕ) (n v : ℕ) (c : Clear l n v) where
           sym (rw q at (any-more l (suc v) (n - suc v) a))
 
 pub ruleset searched = (node-at, clear-start, clear-end, clear-skip, clear-next, met-here)
+
+-- ---- the number
+
+module _ (gs : List Gate) (t : Bool) (e : t ≡ anyRepeats gs) where
+  pub number-nine : t ≡ true → 9 ≡ repeatsRefusal gs
+  unfolding repeatsRefusal
+  number-nine q = rw (← e, q)
+
+  pub number-none : t ≡ false → 0 ≡ repeatsRefusal gs
+  unfolding repeatsRefusal
+  number-none q = rw (← e, q)

@@ -3,7 +3,7 @@ ghost use mathlib.Core.Path.{_≡_};
 ghost use Prim.Native.Nat.{ℕ};
 ghost use Rattle.model.specs.Sharing.{repeats, anyRepeats};
 ghost use Rattle.tables.specs.Layout.{insAt, nodesOf};
-ghost use Rattle.repeats.specs.Reading.{Node, Nodes};
+ghost use Rattle.repeats.specs.Reading.{Node, Nodes, repeatsRefusal};
 use kinds::Family;
 use tables::layout::count_at;
 use tables::layout::first_at;
@@ -51,4 +51,15 @@ pub fn any_repeats(from: &[u32], n: usize) -> bool
         v += 1;
     }
     false
+}
+
+// 9 where one of the first n nodes meets it, else 0.
+pub fn repeats_refusal(from: &[u32], n: usize) -> u32
+    requires { ⌜ Nodes (now from) n ⌝ }
+    ensures { λ r. ⌜ r ≡ repeatsRefusal (nodesOf (now (from .entry)) n) ⌝ }
+{
+    if any_repeats(from, n) {
+        return 9;
+    }
+    0
 }

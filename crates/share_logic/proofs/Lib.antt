@@ -1,2 +1,1 @@
-pub mod Staging
 pub mod Sharing

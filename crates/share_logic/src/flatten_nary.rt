@@ -2,11 +2,11 @@
 ghost use Rattle.model.specs.Network.{canonical, cleanup};
 ghost use Rattle.model.specs.Sharing.{flattenNary};
 ghost use Rattle.tables.specs.Holding.{networkOf};
-ghost use Rattle.share_logic.specs.Stages.{Workable, Left, Staged, flatRefusal};
-use crate::stage::Stage;
+ghost use Rattle.stages.specs.Stages.{Workable, Left, Staged, flatRefusal};
 use dedup::dedup;
 use flatten::Merging;
 use flatten::flatten_gates;
+use stages::Stage;
 use tables::counts::Counts;
 
 // cleanup, then canonical, of the network in `to`: back into `to`.

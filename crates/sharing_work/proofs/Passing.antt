@@ -1,8 +1,8 @@
 -- The work of flatten, factor and share: what was loaded, the stages, and what is delivered.
-use mathlib.Core.Path.{_≡_, refl, sym, ap, ap₂, _∙_}
-use mathlib.Core.Bool.{Bool, true, false, cond}
+use mathlib.Core.Path.{_≡_, refl, sym, ap, _∙_}
+use mathlib.Core.Bool.{cond}
 use mathlib.Core.List.{List, []}
-use Prim.Native.Nat.{ℕ, zero, suc, _≤_}
+use Prim.Native.Nat.{ℕ, zero, suc, _<_, _≤_}
 use native.Mathlib.Omega.{arith}
 use lib.ListN.{length}
 use lib.Dec.{eqb}
@@ -10,25 +10,25 @@ use borrow.Author.Tests.{ne-eqb}
 use Rattle.laws.proofs.Choices.{by-bool}
 use Rattle.answers.specs.declared.Answer.{Answer}
 use Rattle.answers.specs.declared.Answer.the-variants as answers
-use Rattle.model.specs.Gate.{Net, isTopoSorted}
+use Rattle.model.specs.Gate.{Net}
 use Rattle.model.specs.Sharing.{flattenNary, factorNary, factorRefusal, anyRepeats, shareLogic}
 use Rattle.model.specs.Image.{sortedRefusalOf, netOf, imageOf}
-use Rattle.model.specs.Answers.{Outcome, refused, written, inRoom, unless}
+use Rattle.model.specs.Answers.{Outcome, written, inRoom, unless}
 use Rattle.shape.proofs.Accepted.{accepted-sorted}
 use Rattle.tables.specs.Layout.{nodesOf, netOf as tablesOf}
-use Rattle.tables.specs.Holding.{networkOf, Held, Holds}
+use Rattle.tables.specs.Holding.{networkOf, Held}
 use Rattle.tables.specs.Working.{Areas, Answered}
 use Rattle.tables.specs.declared.counts.Counts.{Counts}
 use Rattle.load.specs.Images.{Read}
 use Rattle.load.specs.declared.Loaded.{Loaded}
 use Rattle.load.specs.declared.Loaded.the-variants as loaded
-use Rattle.load.proofs.Loading.{refused-is, network-passes, network-holds, network-held, network-is}
-use Rattle.repeats.specs.Reading.{Nodes}
+use Rattle.load.proofs.Loading.{refused-is, network-passes, network-holds, network-is}
+use Rattle.repeats.specs.Reading.{Nodes, repeatsRefusal}
 use Rattle.repeats.proofs.Searched.{held-nodes}
 use Rattle.growth.specs.Growing.{countsOf}
-use Rattle.share_logic.specs.Stages.{Workable, Left, Staged, stageOf, firstMet, flatRefusal, shareRefusal}
-use Rattle.share_logic.specs.declared.stage.Stage.{Stage}
-use Rattle.share_logic.specs.declared.stage.Stage.the-variants.{Refused, Network}
+use Rattle.stages.specs.Stages.{Workable, Staged, stageOf, firstMet, flatRefusal, shareRefusal}
+use Rattle.stages.specs.declared.Stage.{Stage}
+use Rattle.stages.specs.declared.Stage.the-variants.{Refused, Network}
 use Rattle.sharing_work.specs.Works.{imaged, delivered, Deliverable, flattenPass, factorPass, sharePass, imagedWork}
 
 -- ---- delivering
@@ -84,19 +84,19 @@ module _ (N : Net) (l : List ℕ) (s : Stage) (out : List ℕ) (r : Answer) (out
       rw (← first-refuses (flatRefusal N limit) (factorRefusal (flattenNary N limit)) (written (imageOf (shareLogic N limit)) []))
       (answered (shareRefusal N limit) (shareLogic N limit) l s S out r out′ A)
 
-module _ (from : List ℕ) (c : Counts) (t : Bool) (e : t ≡ anyRepeats (nodesOf from (c .nodes))) where
-  repeats-is : t ≡ anyRepeats (networkOf from c .nodes)
-  unfolding networkOf tablesOf
-  repeats-is = e
+module _ (from : List ℕ) (c : Counts) (n : ℕ) (e : n ≡ repeatsRefusal (nodesOf from (c .nodes))) where
+  number-is : n ≡ cond (anyRepeats (networkOf from c .nodes)) 9 0
+  unfolding networkOf tablesOf repeatsRefusal
+  number-is = e
 
-  pub factor-repeats : t ≡ true → (out : List ℕ) → Answered (inRoom (length out) 0 (factorPass (networkOf from c))) out (answers.Refused 9) out
+  pub factor-repeats : 0 < n → (out : List ℕ) → Answered (inRoom (length out) 0 (factorPass (networkOf from c))) out (answers.Refused n) out
   unfolding factorPass unless
-  factor-repeats q out = let z : anyRepeats (networkOf from c .nodes) ≡ true = sym repeats-is ∙ q in rw z (record { answer = refl; result = refl })
+  factor-repeats q out = rw (← number-is, ne-eqb n 0 (λ z. omega arith)) (record { answer = refl; result = refl })
 
-  pub factor-answered : t ≡ false → (l : List ℕ) (s : Stage) → Staged (factorRefusal (networkOf from c)) (factorNary (networkOf from c)) l s
+  pub factor-answered : n ≤ 0 → (l : List ℕ) (s : Stage) → Staged (factorRefusal (networkOf from c)) (factorNary (networkOf from c)) l s
       → (out : List ℕ) (r : Answer) (out′ : List ℕ) → Answered (delivered l s (length out)) out r out′ → Answered (inRoom (length out) 0 (factorPass (networkOf from c))) out r out′
   unfolding factorPass unless
-  factor-answered q l s S out r out′ A = let z : anyRepeats (networkOf from c .nodes) ≡ false = sym repeats-is ∙ q in rw z (answered _ _ l s S out r out′ A)
+  factor-answered q l s S out r out′ A = let z : n ≡ 0 = omega arith in rw (← number-is, z) (answered _ _ l s S out r out′ A)
 
 pub workable-nodes : (a b : List ℕ) (c : Counts) → Workable a b c → Nodes a (c .nodes)
 workable-nodes a b c W = held-nodes a c (W .held)

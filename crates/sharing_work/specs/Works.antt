@@ -9,9 +9,9 @@ use Rattle.model.specs.Image.{sortedRefusalOf, netOf, imageOf}
 use Rattle.model.specs.Answers.{Outcome, refused, written, inRoom, unless}
 use Rattle.tables.specs.Holding.{networkOf, Held}
 use Rattle.tables.specs.declared.counts.Counts.{Counts}
-use Rattle.share_logic.specs.Stages.{flatRefusal}
-use Rattle.share_logic.specs.declared.stage.Stage.{Stage}
-use Rattle.share_logic.specs.declared.stage.Stage.the-variants.{Refused, Network}
+use Rattle.stages.specs.Stages.{flatRefusal}
+use Rattle.stages.specs.declared.Stage.{Stage}
+use Rattle.stages.specs.declared.Stage.the-variants.{Refused, Network}
 
 -- the image of a network, unless a number refuses it
 abbrev pub imaged : ℕ → Net → Outcome

@@ -3,7 +3,7 @@ ghost use lib.ListN.{length};
 ghost use Rattle.tables.specs.Working.{Answered};
 ghost use Rattle.sharing_work.specs.Works.{Deliverable, delivered};
 use answers::Answer;
-use share_logic::stage::Stage;
+use stages::Stage;
 use write::write;
 
 pub fn deliver(area: &[u32], s: Stage, out: &mut [u8]) -> Answer

@@ -1,7 +1,7 @@
 // What the entries of share_logic.rs do behind 1, over both areas: 2 to 7; what refuses the pass; 13; or the image of its network.
 ghost use lib.ListN.{length};
 ghost use Rattle.model.specs.Answers.{inRoom};
-ghost use Rattle.share_logic.specs.Stages.{Workable};
+ghost use Rattle.stages.specs.Stages.{Workable};
 ghost use Rattle.tables.specs.Holding.{networkOf};
 ghost use Rattle.tables.specs.Working.{Areas, Answered};
 ghost use Rattle.sharing_work.specs.Works.{imagedWork};

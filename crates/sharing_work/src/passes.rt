@@ -1,14 +1,14 @@
 // What flatten, factor and share make of a network in an area: its refusal, or 13, or its image.
 ghost use lib.ListN.{length};
 ghost use Rattle.model.specs.Answers.{inRoom};
-ghost use Rattle.share_logic.specs.Stages.{Workable};
+ghost use Rattle.stages.specs.Stages.{Workable};
 ghost use Rattle.tables.specs.Holding.{networkOf};
 ghost use Rattle.tables.specs.Working.{Answered};
 ghost use Rattle.sharing_work.specs.Works.{flattenPass, factorPass, sharePass};
 use crate::deliver::deliver;
 use answers::Answer;
-use repeats::any_repeats;
-use share_logic::factor::factor_nary;
+use factor_nary::factor_nary;
+use repeats::repeats_refusal;
 use share_logic::flatten_nary::flatten_nary;
 use share_logic::share_logic;
 use tables::counts::Counts;
@@ -25,8 +25,9 @@ pub fn factor(a: &mut [u32], b: &mut [u32], c: Counts, out: &mut [u8]) -> Answer
     requires { ⌜ Workable (now a) (now b) c ⌝ }
     ensures { λ r. ⌜ Answered (inRoom (length (now (out .entry))) 0 (factorPass (networkOf (now (a .entry)) c))) (now (out .entry)) r (now (out .exit)) ⌝ }
 {
-    if any_repeats(a, c.nodes) {
-        return Answer::Refused(9);
+    let n = repeats_refusal(a, c.nodes);
+    if 0 < n {
+        return Answer::Refused(n);
     }
     let s = factor_nary(a, b, c);
     deliver(a, s, out)

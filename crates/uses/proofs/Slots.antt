@@ -62,13 +62,13 @@ rest-to f l v n h = let e : n ≡ (n - v) + v = omega arith in rw e (lists-rest 
 
 -- node v, if it is a gate of the pass, is the next one
 module _ (f : Family) (l : List ℕ) (v n : ℕ) (h : v < n) (t : takes f (gateAt l v) ≡ true) where
-  list-here : getD (listsIn f l n) (length (listsIn f l v)) [] ≡ insAt l v
+  pub list-here : getD (listsIn f l n) (length (listsIn f l v)) [] ≡ insAt l v
   list-here = go (rest-to f l (suc v) n h)
     where
       go : Rest f l (suc v) n → getD (listsIn f l n) (length (listsIn f l v)) [] ≡ insAt l v
       go (r, e) = rw (e, lists-next f l v t, append-assoc) (getD-at (listsIn f l v) (insAt l v) r [] (length (listsIn f l v)) refl)
 
-  list-there : length (listsIn f l v) < length (listsIn f l n)
+  pub list-there : length (listsIn f l v) < length (listsIn f l n)
   list-there = go (rest-to f l (suc v) n h)
     where
       go : Rest f l (suc v) n → length (listsIn f l v) < length (listsIn f l n)

@@ -2,7 +2,7 @@
 use Rattle.model.specs.Entries.{flattenOutcome}
 use Rattle.sharing_work.specs.Works.{imagedWork, flattenPass}
 use Rattle.sharing_work.specs.Tasks.{passOf}
-use Rattle.share_logic.specs.Stages.{flatRefusal}
+use Rattle.stages.specs.Stages.{flatRefusal}
 use borrow.Author.Needs.{needs}
 use Rattle.sharing.proofs.flattening.flatten.Statement.{statement}
 use Rattle.sharing.proofs.flattening.flatten.Tie as tie

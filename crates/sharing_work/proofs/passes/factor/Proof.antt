@@ -5,7 +5,7 @@ use Rattle.sharing_work.proofs.passes.factor.Statement.{statement}
 use Rattle.sharing_work.proofs.passes.factor.Tie as tie
 
 returns : tie.Need-returns
-returns c = factor-repeats _ _ _ (c .before .any-repeats .ensures) (c .if1 .taken) _
+returns c = factor-repeats _ _ _ (c .before .repeats-refusal .ensures) (c .if1 .taken) _
 
 pub factor-spec : {M : Type 1} → statement M
 factor-spec =

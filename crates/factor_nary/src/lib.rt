@@ -1,13 +1,13 @@
-// factor_nary: one pass over the Ands, one over the Xors, each grown, sorted and made canonical; or 11 or 12.
+// share_logic.rs, factor_nary: one pass over the Ands, one over the Xors, each grown, sorted and made canonical; or 11 or 12.
 ghost use Rattle.model.specs.Network.{canonical, topoSort};
 ghost use Rattle.model.specs.Sharing.{factorGates, factorNary, factorRefusal, passRefusal};
 ghost use Rattle.tables.specs.Holding.{networkOf};
-ghost use Rattle.share_logic.specs.Stages.{Workable, Orderable, Staged};
-use crate::stage::Stage;
+ghost use Rattle.stages.specs.Stages.{Workable, Orderable, Staged};
 use dedup::dedup;
-use factor_gates::pass::Pass;
 use factor_gates::pass::factor_pass;
 use kinds::Family;
+use stages::Stage;
+use stages::stage_of_pass;
 use tables::counts::Counts;
 use topo_sort::Sorting;
 use topo_sort::topo_sort;
@@ -29,11 +29,10 @@ fn factor_gates(from: &mut [u32], to: &mut [u32], c: Counts, f: Family) -> Stage
     requires { ⌜ Workable (now from) (now to) c ⌝ }
     ensures { λ r. ⌜ Staged (passRefusal f (networkOf (now (from .entry)) c)) (factorGates f (networkOf (now (from .entry)) c)) (now (to .exit)) r ⌝ }
 {
-    let p = factor_pass(from, to, c, f);
-    match p {
-        Pass::Pairs => Stage::Refused(11),
-        Pass::Room => Stage::Refused(12),
-        Pass::Grown(g) => order(from, to, g),
+    let s = stage_of_pass(factor_pass(from, to, c, f));
+    match s {
+        Stage::Refused(n) => Stage::Refused(n),
+        Stage::Network(g) => order(from, to, g),
     }
 }
 

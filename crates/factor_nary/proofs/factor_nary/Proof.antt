@@ -1,9 +1,8 @@
 -- `factor_nary`: each need by its law.
 use borrow.Author.Needs.{needs}
-use Rattle.share_logic.proofs.Staging.{stages}
-use Rattle.share_logic.proofs.Sharing.{factor-left, shares}
-use Rattle.share_logic.proofs.factor.factor_nary.Statement.{statement}
-use Rattle.share_logic.proofs.factor.factor_nary.Tie as tie
+use Rattle.factor_nary.proofs.Passes.{factor-left, passes}
+use Rattle.factor_nary.proofs.factor_nary.Statement.{statement}
+use Rattle.factor_nary.proofs.factor_nary.Tie as tie
 
 returns-2 : tie.Need-returns-2
 returns-2 c = factor-left _ _ _ (c .before .before .before .before .before .before .before .before .before .before .before .before .before .before .factor-gates .ensures) _ (search needs) _ _ (c .before .before .before .before .factor-gates2 .ensures)
@@ -15,10 +14,10 @@ factor-nary-spec =
     (λ c κs. search needs)
     (λ c. search needs)
     (λ c. search needs)
-    (λ c κs. search (needs, stages, shares))
+    (λ c κs. search (needs, passes))
     (λ c. search needs)
     (λ c. search needs)
-    (λ c. search (needs, stages, shares))
+    (λ c. search (needs, passes))
     (λ c. search needs)
     (λ c. search needs)
     returns-2)

@@ -5,25 +5,19 @@ use native.Mathlib.Omega.{arith}
 use mathlib.Core.Bool.{Bool, true, false, cond}
 use mathlib.Core.List.{List}
 use lib.ListN.{length}
-use lib.Dec.{eqb, ltb}
+use lib.Dec.{eqb}
 use borrow.Author.Tests.{eqb-false, ne-eqb}
-use Rattle.model.specs.Gate.{Net, size, isTopoSorted}
-use Rattle.model.specs.Network.{canonical, cleanup, topoSort, sorts}
-use Rattle.shape.proofs.Cleanup.{cleanup-sorted}
-use Rattle.shape.proofs.Sort.{sort-sorted}
-use Rattle.tables.specs.Layout.{netSize, netOf, outputsOf}
-use Rattle.tables.specs.Holding.{networkOf, Held, Holds}
+use Rattle.model.specs.Gate.{Net}
+use Rattle.tables.specs.Layout.{netOf, outputsOf}
+use Rattle.tables.specs.Holding.{networkOf}
 use Rattle.tables.specs.declared.counts.Counts.{Counts}
 use Rattle.tables.proofs.Holding.{size-network, length-outputsOf}
-use Rattle.cleanup.specs.Marking.{Cleanable, Cleaned}
-use Rattle.topo_sort.specs.Sorts.{Sortable, Sorted, sortingOf}
-use Rattle.topo_sort.specs.declared.Sorting.{Sorting}
-use Rattle.topo_sort.specs.declared.Sorting.the-variants.{Looped, Ordered}
-use Rattle.dedup.specs.States.{Dedupable, Deduped}
 use Rattle.growth.specs.Growing.{countsOf}
-use Rattle.share_logic.specs.Stages.{Workable, Orderable, Left, Staged, stageOf, firstMet}
-use Rattle.share_logic.specs.declared.stage.Stage.{Stage}
-use Rattle.share_logic.specs.declared.stage.Stage.the-variants.{Refused, Network}
+use Rattle.factor_gates.specs.declared.pass.Pass.{Pass}
+use Rattle.factor_gates.specs.declared.pass.Pass.the-variants.{Grown, Pairs, Room}
+use Rattle.stages.specs.Stages.{Workable, Left, Staged, stageOf, stageOfPass, firstMet}
+use Rattle.stages.specs.declared.Stage.{Stage}
+use Rattle.stages.specs.declared.Stage.the-variants.{Refused, Network}
 
 -- ---- the counts of a network that is held are its own
 
@@ -37,13 +31,27 @@ counts-held l r N e = counts-network l r ∙ ap countsOf e
 left-counts : (N : Net) (l : List ℕ) (r : Counts) → Left N l r → r ≡ countsOf N
 left-counts N l r L = counts-held l r N (L .holds .net)
 
+-- ---- the stage of a pass
+
+pub stage-pairs : (p : Pass) → p ≡ Pairs → Refused 11 ≡ stageOfPass p
+unfolding stageOfPass
+stage-pairs p q = rw q
+
+pub stage-room : (p : Pass) → p ≡ Room → Refused 12 ≡ stageOfPass p
+unfolding stageOfPass
+stage-room p q = rw q
+
+pub stage-grown : (p : Pass) (c : Counts) → p ≡ Grown c → Network c ≡ stageOfPass p
+unfolding stageOfPass
+stage-grown p c q = rw q
+
 -- ---- a stage that is not refused
 
-passed-by : (k : ℕ) (c d : Counts) → Network d ≡ stageOf k c → (k ≡ 0) × (d ≡ c)
+pub passed-by : (k : ℕ) (c d : Counts) → Network d ≡ stageOf k c → (k ≡ 0) × (d ≡ c)
 passed-by zero c d e = (refl, cc)
 passed-by (suc k) c d e = let z : _≡_ {A = ℕ} 0 1 = cc in absurd (omega arith)
 
-refused-by : (k n : ℕ) (c : Counts) → Refused n ≡ stageOf k c → (eqb k 0 ≡ false) × (k ≡ n)
+pub refused-by : (k n : ℕ) (c : Counts) → Refused n ≡ stageOf k c → (eqb k 0 ≡ false) × (k ≡ n)
 refused-by zero n c e = let z : _≡_ {A = ℕ} 0 1 = cc in absurd (omega arith)
 refused-by (suc k) n c e = (ne-eqb (suc k) 0 (λ q. omega arith), cc)
 
@@ -81,44 +89,7 @@ module _ (k : ℕ) (N : Net) (m : List ℕ) (x : Stage) (S : Staged k N m x) whe
       let e : firstMet k j ≡ k = rw (z .0) in
       rw e (staged-refused k n M l (z .0) (z .1))
 
--- ---- cleanup, then canonical
-
-module _ (to from : List ℕ) (c : Counts) (W : Workable to from c) where
-  pub clean-asks : Cleanable to from c
-  clean-asks = record { held = W .held; room = (let h = W .long-to in omega arith) }
-
-  module _ (m : List ℕ) (d : Counts) (C : Cleaned to m c d) where
-    pub clean-next : Dedupable m to d
-    clean-next = record {
-      held = C .holds .held;
-      sorted = rw (C .holds .net) (cleanup-sorted (networkOf to c) (W .held .valid) (W .sorted));
-      long = W .long-from;
-    }
-
-    pub clean-left : (l : List ℕ) (r : Counts) → Deduped m l d true r → Left (canonical (cleanup (networkOf to c))) l r
-    clean-left l r D = record { holds = rw (← (C .holds .net)) (D .holds); sorted = rw (← (C .holds .net)) (D .sorted) }
-
--- ---- sort, then canonical
-
-module _ (to from : List ℕ) (c : Counts) (W : Orderable to from c) where
-  pub order-asks : Sortable to from c
-  order-asks = record { held = W .held; room = (let h = W .long-to in omega arith) }
-
-  module _ (m : List ℕ) (x : Sorting) (S : Sorted to m c x) where
-    ordered : x ≡ Ordered
-    ordered = S .answer ∙ ap sortingOf (W .sorts-is)
-
-    pub order-never : (N : Net) (l : List ℕ) (s : Stage) → x ≡ Looped → Staged 0 N l s
-    order-never N l s q = let z : _≡_ {A = ℕ} 0 1 = cc in absurd (omega arith)
-
-    pub order-next : x ≡ Ordered → Dedupable m to c
-    order-next q = record {
-      held = S .holds q .held;
-      sorted = rw (S .holds q .net) (sort-sorted (networkOf to c) (W .held .valid) (W .sorts-is));
-      long = W .long-from;
-    }
-
-    pub order-left : x ≡ Ordered → (l : List ℕ) (r : Counts) → Deduped m l c true r → Staged 0 (canonical (topoSort (networkOf to c))) l (Network r)
-    order-left q l r D = staged-left _ l r (record { holds = rw (← (S .holds q .net)) (D .holds); sorted = rw (← (S .holds q .net)) (D .sorted) })
-
-pub ruleset stages = (clean-asks, clean-next, clean-left, order-asks, order-never, order-next, order-left)
+-- the area that the first stage left its network in, and the other, for the next stage
+pub next-workable : (from to from′ m : List ℕ) (c d : Counts) → Workable from to c → (k : ℕ) (N : Net) (x : Stage) → Staged k N m x → x ≡ Network d
+    → length from′ ≡ length from → length m ≡ length to → Workable m from′ d
+next-workable from to from′ m c d W k N x S q h g = next-asks k N m x S d q from′ (rw g (W .long-to)) (rw h (W .long-from))

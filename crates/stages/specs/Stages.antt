@@ -11,13 +11,21 @@ use Rattle.model.specs.Sharing.{flattenedInputs, flattenNary, factorRefusal}
 use Rattle.tables.specs.Holding.{networkOf, Held, Holds}
 use Rattle.tables.specs.declared.counts.Counts.{Counts}
 use Rattle.growth.specs.Growing.{countsOf}
-use Rattle.share_logic.specs.declared.stage.Stage.{Stage}
-use Rattle.share_logic.specs.declared.stage.Stage.the-variants.{Refused, Network}
+use Rattle.factor_gates.specs.declared.pass.Pass.{Pass}
+use Rattle.factor_gates.specs.declared.pass.Pass.the-variants.{Grown, Pairs, Room}
+use Rattle.stages.specs.declared.Stage.{Stage}
+use Rattle.stages.specs.declared.Stage.the-variants.{Refused, Network}
 
 -- refused with a number, unless it is 0
 abbrev pub stageOf : ℕ → Counts → Stage
 stageOf zero c = Network c
 stageOf (suc n) c = Refused (suc n)
+
+-- document 01's number of what refuses a pass, or the counts of the grown network
+unfoldable pub stageOfPass : Pass → Stage
+stageOfPass (Grown c) = Network c
+stageOfPass Pairs = Refused 11
+stageOfPass Room = Refused 12
 
 -- 10: "gate inputs after flattening, before cleanup, pass 2,048"
 unfoldable pub flatRefusal : Net → ℕ → ℕ
