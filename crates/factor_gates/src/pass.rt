@@ -9,8 +9,8 @@ use factoring::greedy::Built;
 use factoring_run::load_lists;
 use factoring_run::run;
 use growth::grow::grow;
-use growth::room::room_for;
 use kinds::Family;
+use room::room_for;
 use tables::counts::Counts;
 use uses::load::pair_places;
 

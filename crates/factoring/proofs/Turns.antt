@@ -81,6 +81,21 @@ module _ (l m : List ℕ) (g n room : ℕ) (r : Built) (s : State) (w : Went l m
       go true e = let z = w .answer in let x : To (length (s .built)) ≡ Full = rw e at (sym z ∙ q) in let y : _≡_ {A = ℕ} 0 1 = cc in absurd (omega arith)
       go false e = leb-false _ _ e
 
+-- fewer lists ask less
+pub ready-fewer : (l : List ℕ) (g h n k room : ℕ) → h ≤ g → Ready l g n k room → Ready l h n k room
+ready-fewer l g h n k room e r =
+    record {
+      laid = record {
+        long = r .laid .long;
+        few = omega (arith, r .laid .few);
+        ends = λ i q. r .laid .ends i (omega arith);
+        apart = λ i j q x. r .laid .apart i j q (omega arith);
+      };
+      old = omega (arith, r .old);
+      nodes = r .nodes;
+      more = r .more;
+    }
+
 pub ready-next : (l m : List ℕ) (g n k room t : ℕ) (r : Built) (s : State) → Ready l g n k room → Went l m g n room r s → r ≡ To t → Ready m g n t room
 ready-next l m g n k room t r s h w e = record { laid = went-placed l m g n room r s w t e .laid; old = h .old; nodes = h .nodes; more = went-le l m g n room r s w t e }
 

@@ -1,7 +1,6 @@
-// The pairs of a pass: consume_binary_gates, then the best pair while one is left.
-ghost use mathlib.Core.Path.{_≡_};
-ghost use Prim.Native.Nat.{ℕ, _+_, _<_, min, max};
-ghost use Rattle.model.specs.Sharing.{binaries, consumeBinaryGates, allPairs};
+// The pairs of a pass: one round over the gates with two left, and the best pair while one is left.
+ghost use Prim.Native.Nat.{_+_, _<_, min, max};
+ghost use Rattle.model.specs.Sharing.{binaries, allPairs};
 ghost use Rattle.pairs.specs.States.{stateOf, Ready, Replaced};
 ghost use Rattle.factoring.specs.Turned.{binaryAt, Went};
 use best_pair::Best;
@@ -48,7 +47,7 @@ fn consume_at(area: &mut [u32], g: usize, n: usize, k: usize, room: usize, i: us
 }
 
 // One pass over the gates.
-fn consume_twos(area: &mut [u32], g: usize, n: usize, k: usize, room: usize) -> Built
+pub fn consume_twos(area: &mut [u32], g: usize, n: usize, k: usize, room: usize) -> Built
     requires { ⌜ Ready (now area) g n k room ⌝ }
     ensures { λ r. ⌜ Went (now (area .entry)) (now (area .exit)) g n room r (binaries (stateOf (now (area .entry)) g n k) g) ⌝ }
 {
@@ -63,18 +62,6 @@ fn consume_twos(area: &mut [u32], g: usize, n: usize, k: usize, room: usize) -> 
         i += 1;
     }
     Built::To(m)
-}
-
-// Two passes, in case the first gives new gates with two left.
-pub fn consume_binary_gates(area: &mut [u32], g: usize, n: usize, k: usize, room: usize) -> Built
-    requires { ⌜ Ready (now area) g n k room ⌝ }
-    ensures { λ r. ⌜ Went (now (area .entry)) (now (area .exit)) g n room r (consumeBinaryGates (stateOf (now (area .entry)) g n k) g) ⌝ }
-{
-    let r = consume_twos(area, g, n, k, room);
-    let Built::To(t) = r else {
-        return Built::Full;
-    };
-    consume_twos(area, g, n, t, room)
 }
 
 // While a pair is left, the best one.

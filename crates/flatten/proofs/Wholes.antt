@@ -12,7 +12,8 @@ use mir.Val.{Fits}
 use lib.ListN.{getD, length}
 use borrow.Author.Tests.{le-ltb, lt-ltb}
 use Rattle.merge_dependencies.specs.Pushing.{behind}
-use Rattle.flatten.specs.Flattening.{Flattens, Grew, Laid, Mergeable, Merged, mergingOf}
+use Rattle.flatten_gate.specs.Gates.{Flattens, Grew}
+use Rattle.flatten.specs.Flattening.{Laid, Mergeable, Merged, mergingOf}
 use Rattle.kinds.specs.Kinds.{wideOf}
 use Rattle.kinds.specs.declared.Family.{Family}
 use Rattle.kinds.specs.declared.Family.the-variants.{And, Xor}

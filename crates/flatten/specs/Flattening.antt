@@ -1,44 +1,18 @@
 -- The flattened network, put gate after gate: what each function asks and leaves. `Merging` is the enum of src/lib.rt.
-use Prim.Native.Nat.{suc, ℕ, _+_, _<_, _≤_}
+use Prim.Native.Nat.{ℕ, _≤_}
 use mathlib.Core.Path.{_≡_}
 use mathlib.Core.Bool.{cond, true}
-use mathlib.Core.List.{List, [], _++_, _∷_}
+use mathlib.Core.List.{List}
 use lib.ListN.{length}
 use lib.Dec.{ltb}
-use Rattle.kinds.specs.declared.Family.{Family}
-use Rattle.model.specs.Gate.{Gate, Net, isTopoSorted, size}
-use Rattle.model.specs.Sharing.{flattenedInputs, flats, inside, merged}
-use Rattle.model.proofs.Names.{In}
+use Rattle.model.specs.Gate.{Net, isTopoSorted, size}
+use Rattle.model.specs.Sharing.{flattenedInputs, flats, merged}
 use Rattle.tables.specs.Building.{Packed}
 use Rattle.tables.specs.Holding.{Held, Holds, networkOf}
-use Rattle.tables.specs.Layout.{countAt, firstAt, gateAt, insAt, netSize, nodesOf}
+use Rattle.tables.specs.Layout.{netSize, nodesOf}
 use Rattle.tables.specs.declared.counts.Counts.{Counts}
-use Rattle.merge_dependencies.specs.Pushing.{behind}
-use Rattle.merge_dependencies.specs.declared.Pushed.{Pushed}
 use Rattle.flatten.specs.declared.Merging.{Merging}
 use Rattle.flatten.specs.declared.Merging.the-variants.{Fits, Full}
-
--- ---- one gate
-
--- node v of `from` is put behind the nodes of l, all that there are below v
-pub record Puts (from l : List ℕ) (v at : ℕ) : Type 0 where
-  pub source : netSize ≤ length from
-  pub node : v < 512
-  pub ends : firstAt from v + countAt from v ≤ 2048
-  pub packed : Packed l v at
-
--- and an And or Xor names only these
-pub record Flattens (from l : List ℕ) (v at : ℕ) : Type 0 where
-  pub puts : Puts from l v at
-  pub below : (f : Family) → inside f (gateAt from v) ≡ true → In (λ w. w < v) (insAt from v)
-
--- from l, m has the gate g as its node v, its inputs from `at` on, if they have room
-pub record Grew (l m : List ℕ) (v at : ℕ) (g : Gate) (r : Pushed) : Type 0 where
-  pub answer : r ≡ behind at (length (g .ins))
-  pub packed : at + length (g .ins) ≤ 2048 → Packed m (suc v) (at + length (g .ins))
-  pub nodes : at + length (g .ins) ≤ 2048 → nodesOf m (suc v) ≡ nodesOf l v ++ (g ∷ [])
-
--- ---- all of them
 
 -- 10, exactly where the unlimited pass meets it
 abbrev pub mergingOf : ℕ → Merging

@@ -1,12 +1,10 @@
 // share_logic.rs, flatten_nary before its cleanup: each And or Xor gate merged with the gates of its family that it names.
 ghost use Rattle.tables.specs.Holding.{networkOf};
 ghost use Rattle.flatten.specs.Flattening.{Mergeable, Merged, Laid};
-use crate::node::flatten_gate;
 use copying::copy_outputs;
+use flatten_gate::flatten_gate;
 use merge_dependencies::Pushed;
 use tables::counts::Counts;
-
-pub mod node;
 
 // Whether the gate inputs after flattening fit; if not, refusal 10.
 pub enum Merging {

@@ -22,7 +22,7 @@ use Rattle.tables.specs.Building.{Packed, putInputs, putNode}
 use Rattle.tables.specs.Layout.{countAt, firstAt, gateAt, highAt, kindAt, lowAt, nodesOf, putGate, putInput, putTable}
 use Rattle.uses.specs.Loading.{SameLists, listsIn}
 use Rattle.copying.proofs.Copied.{nodesOf-putCopy, packed-putCopy}
-use Rattle.growth.proofs.Rooms.{buf-none, buf-other, buf-small, buf-taken}
+use Rattle.room.proofs.Rooms.{buf-none, buf-other, buf-small, buf-taken}
 use Rattle.laws.proofs.Choices.{by-bool}
 use Rattle.pairs.proofs.Gates.{length-lists}
 use Rattle.pairs.proofs.Places.{leftAt-putNode, sigAt-putNode, startAt-putNode}

@@ -1,4 +1,3 @@
 -- What belongs to no one function.
-pub mod Rooms
 pub mod Growings
 pub mod Wholes

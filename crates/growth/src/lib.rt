@@ -1,3 +1,2 @@
-// The network that a factoring pass grows, and the room that there is for it.
+// The network that a factoring pass grows.
 pub mod grow;
-pub mod room;

@@ -1,3 +1,1 @@
-pub mod Starts
-pub mod Downs
 pub mod Visits

@@ -23,9 +23,9 @@ use Rattle.tables.proofs.Places.{length-store, cell-store, cell-store-other}
 use Rattle.tables.proofs.Holding.{size-network}
 use Rattle.remap.specs.Tables.{insFrom, stackOf, orderFrom}
 use Rattle.remap.proofs.Tabled.{stackOf-same, orderFrom-same, length-stackOf, length-orderFrom, deps-at, held-inside, mark-cond}
-use Rattle.stack_search.specs.Searching.{downIns, Lowered, Downs, Rep, Live, leftOf, Turned}
-use Rattle.stack_search.specs.Searching.{Flips}
-use Rattle.stack_search.proofs.Downs.{DownRel, down-rel}
+use Rattle.count_down.specs.Lowering.{downIns, Lowered, Downs}
+use Rattle.stack_search.specs.Searching.{Rep, Live, leftOf, Turned, Flips}
+use Rattle.count_down.proofs.Downs.{DownRel, down-rel}
 
 -- the measure is the model's
 left-of : (from l : List ℕ) (c : Counts) (sp pos : ℕ) (s : Search) → Rep l (c .nodes) sp pos s → leftOf from l c sp ≡ searchLeft (networkOf from c) s

@@ -4,8 +4,8 @@ ghost use Rattle.topo_sort.specs.Sorts.{Sortable, Ordering, Sorted};
 use crate::order::put_flip_flops;
 use count_deps::count_deps;
 use remap::remap;
-use stack_search::start;
 use stack_search::visit_all;
+use stack_start::start;
 use tables::counts::Counts;
 
 pub mod order;

@@ -1,0 +1,2 @@
+-- What the contracts of `flatten_gate` cite.
+pub mod Gates
