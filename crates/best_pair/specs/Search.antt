@@ -1,17 +1,12 @@
--- The search for the best pair. `Top` and `Best` of src/lib.rt.
+-- The search for the best pair. `Best` is the enum of src/lib.rt.
 use Prim.Native.Nat.{suc, ℕ}
 use mathlib.Core.Bool.{cond}
 use mathlib.Core.List.{List}
 use lib.ListN.{drop, getD}
 use lib.Dec.{eqb}
 use Rattle.model.specs.Sharing.{Top, consider, makePair, topWith}
-use Rattle.best_pair.specs.declared.Top as code
 use Rattle.best_pair.specs.declared.Best.{Best}
 use Rattle.best_pair.specs.declared.Best.the-variants.{Found, None}
-
--- the struct's value
-unfoldable pub topOf : code.Top → Top
-topOf t = record { count = t .n; a = t .a; b = t .b }
 
 -- the pair of a and b, smaller word first or not
 unfoldable pub considered : List (List ℕ) → Top → ℕ → ℕ → Top

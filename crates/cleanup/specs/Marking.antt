@@ -8,13 +8,13 @@ use lib.Dec.{eqb}
 use Rattle.laws.specs.Bools.{bit}
 use Rattle.laws.specs.Lists.{tab}
 use Rattle.model.specs.Gate.{size}
-use Rattle.model.specs.Network.{vars, deps, sumTo, rising, translation, Walk, walk, walkLeft, seen, cleanupOrder, cleanup}
+use Rattle.model.specs.Network.{vars, deps, sumTo, translation, Walk, walk, walkLeft, cleanupOrder, cleanup}
 use Rattle.shape.specs.Forms.{Below}
 use Rattle.shape.proofs.Cleanup.{K, lastWalk}
 use Rattle.tables.specs.Layout.{netSize, span, inputAt, outputAt, cell, trBase, markBase}
 use Rattle.tables.specs.Holding.{networkOf, Held, Holds}
 use Rattle.tables.specs.declared.counts.Counts.{Counts}
-use Rattle.remap.specs.Tables.{Sound, stackOf, orderFrom}
+use Rattle.remap.specs.Tables.{Sound, stackOf}
 
 -- ---- signals put on the stack
 
@@ -77,17 +77,6 @@ leftOf from l c sp = sp + sumTo (λ u. cond (eqb (cell l markBase u) 0) (length 
 pub record Walked (from l e : List ℕ) (c : Counts) (sp r : ℕ) : Type 0 where
   pub live : Walking from e c r
   pub less : leftOf from e c r < leftOf from l c sp
-
-pub record Marked (from l : List ℕ) (c : Counts) : Type 0 where
-  pub ok : Sound from c
-  pub room : span ≤ length l
-  pub marks : (v : ℕ) → v < c .nodes → cell l markBase v ≡ bit (seen (networkOf from c) v)
-
--- k of the first v nodes are kept
-pub record Keeping (from l : List ℕ) (c : Counts) (v k : ℕ) : Type 0 where
-  pub marked : Marked from l c
-  pub order : orderFrom l 0 k ≡ rising (seen (networkOf from c)) v
-  pub few : k ≤ v
 
 -- CLEANUP: the model's network, of the counts r, and the mapping
 pub record Cleaned (from l : List ℕ) (c r : Counts) : Type 0 where

@@ -1,12 +1,14 @@
 // network.rs, cleanup: what outputs reach, through flip-flops, in old order. `from` is read, `to` is written, and has the order, the
 // mapping, marks and the stack in the tables behind its network.
 ghost use mathlib.Core.List.{[], _∷_};
-ghost use Prim.Native.Nat.{_+_, _<_};
+ghost use Prim.Native.Nat.{_<_};
 ghost use Rattle.laws.specs.Lists.{tab};
 ghost use Rattle.model.specs.Network.{vars};
 ghost use Rattle.tables.specs.Layout.{outputAt};
 ghost use Rattle.remap.specs.Tables.{insFrom};
-ghost use Rattle.cleanup.specs.Marking.{CanPush, Pushed, PushIns, PushOuts, Walking, Walked, Marked, Keeping, Cleanable, Cleaned};
+ghost use Rattle.cleanup.specs.Marking.{CanPush, Pushed, PushIns, PushOuts, Walking, Walked, Cleanable, Cleaned};
+ghost use Rattle.keep_marked.specs.Orders.{Marked};
+use keep_marked::keep_marked;
 use remap::nodes::clear_table;
 use remap::nodes::is_node;
 use remap::nodes::node_of;
@@ -17,7 +19,6 @@ use tables::layout::first_at;
 use tables::layout::input_at;
 use tables::layout::output_at;
 use tables::scratch::MARK;
-use tables::scratch::ORDER;
 use tables::scratch::STACK;
 use tables::scratch::number;
 use tables::scratch::put_word;
@@ -86,32 +87,6 @@ fn mark_all(from: &[u32], to: &mut [u32], c: Counts)
     while 0 < sp {
         sp = mark(from, to, c, sp);
     }
-}
-
-// A marked node goes behind what is kept; how many are.
-fn keep_node(from: &[u32], to: &mut [u32], c: Counts, v: usize, k: usize) -> usize
-    requires { ⌜ Keeping (now from) (now to) c v k × (v < c .nodes) ⌝ }
-    ensures { λ r. ⌜ Keeping (now (from .entry)) (now (to .exit)) c (v + 1) r ⌝ }
-{
-    if 0 < word(to, MARK, v) {
-        put_word(to, ORDER, k, v as u32);
-        return k + 1;
-    }
-    k
-}
-
-fn keep_marked(from: &[u32], to: &mut [u32], c: Counts) -> usize
-    requires { ⌜ Marked (now from) (now to) c ⌝ }
-    ensures { λ r. ⌜ Keeping (now (from .entry)) (now (to .exit)) c (c .nodes) r ⌝ }
-{
-    let n = c.nodes;
-    let mut k: usize = 0;
-    let mut v: usize = 0;
-    while v < n {
-        k = keep_node(from, to, c, v, k);
-        v += 1;
-    }
-    k
 }
 
 // The network of what outputs reach, with the mapping in its table; its counts.

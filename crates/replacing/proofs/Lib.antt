@@ -1,5 +1,4 @@
 -- What belongs to no one function.
 
-pub mod Taking
 pub mod Swaps
 pub mod Replacings

@@ -9,7 +9,7 @@ use Rattle.model.specs.Sharing.{replaceIn, replacePair}
 use Rattle.model.specs.Signal.{fromVar}
 use Rattle.pairs.specs.Lists.{Laid, pairAt, putPair, startAt}
 use Rattle.pairs.specs.States.{Ready, Replaced, stateOf}
-use Rattle.replacing.specs.Words.{replacedAll}
+use Rattle.replacing.specs.Swapped.{replacedAll}
 use Rattle.laws.proofs.Tabs.{tab-ext}
 use Rattle.replacing.proofs.Swaps.{laid-replacedAll, left-kept, lists-replacedAll, start-kept}
 use Rattle.pairs.proofs.Stated.{laid-putPair, lists-putPair, pair≡, state≡}

@@ -10,7 +10,8 @@ use native.Mathlib.Decide.{ℕ-discrete}
 use lib.ListN.{length, length-append}
 use Rattle.model.specs.Sharing.{holds, replaceIn, takeOut}
 use Rattle.pairs.specs.Lists.{Laid, leftAt, listAt, listsOf, startAt}
-use Rattle.replacing.specs.Words.{replacedAll, replacedIn}
+use Rattle.replacing.specs.Swapped.{replacedAll}
+use Rattle.replace_in.specs.Words.{replacedIn}
 use Rattle.laws.proofs.Bools.{and-left}
 use Rattle.laws.proofs.Choices.{by-bool}
 use Rattle.laws.proofs.Tabs.{map-tab, tab-ext}

@@ -1,2 +1,2 @@
 -- What the contracts of `replacing` cite.
-pub mod Words
+pub mod Swapped

@@ -5,7 +5,7 @@ use lib.ListN.{drop}
 use borrow.Author.Needs.{needs}
 use Rattle.model.specs.Sharing.{topIn}
 use Rattle.pairs.specs.Lists.{listAt, listsOf}
-use Rattle.best_pair.specs.Search.{topOf}
+use Rattle.top_pair.specs.Tops.{topOf}
 use Rattle.best_pair.proofs.Tops.{ins}
 use Rattle.best_pair.proofs.best_in.Statement.{statement}
 use Rattle.best_pair.proofs.best_in.Tie as tie

@@ -5,8 +5,10 @@ use lib.ListN.{drop}
 use borrow.Author.Needs.{needs}
 use Rattle.model.specs.Sharing.{topWith}
 use Rattle.pairs.specs.Lists.{listAt, listsOf}
-use Rattle.best_pair.specs.Search.{inTop, topOf}
-use Rattle.best_pair.proofs.Tops.{sig-fits, sig-room, with-end, with-start, with-step}
+use Rattle.best_pair.specs.Search.{inTop}
+use Rattle.top_pair.specs.Tops.{topOf}
+use Rattle.count_pair.proofs.Counts.{sig-fits, sig-room}
+use Rattle.best_pair.proofs.Tops.{with-end, with-start, with-step}
 use Rattle.best_pair.proofs.best_with.Statement.{statement}
 use Rattle.best_pair.proofs.best_with.Tie as tie
 

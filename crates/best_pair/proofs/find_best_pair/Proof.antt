@@ -5,7 +5,7 @@ use lib.ListN.{drop}
 use borrow.Author.Needs.{needs}
 use Rattle.model.specs.Sharing.{findBestPair, topOver}
 use Rattle.pairs.specs.Lists.{listsOf}
-use Rattle.best_pair.specs.Search.{topOf}
+use Rattle.top_pair.specs.Tops.{topOf}
 use Rattle.best_pair.proofs.Tops.{overs}
 use Rattle.best_pair.proofs.find_best_pair.Statement.{statement}
 use Rattle.best_pair.proofs.find_best_pair.Tie as tie

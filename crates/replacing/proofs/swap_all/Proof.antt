@@ -5,7 +5,7 @@ use mathlib.Core.Path.{_≡_}
 use lib.ListN.{length}
 use borrow.Author.Needs.{needs}
 use Rattle.pairs.specs.Lists.{Laid}
-use Rattle.replacing.specs.Words.{replacedAll}
+use Rattle.replacing.specs.Swapped.{replacedAll}
 use Rattle.replacing.proofs.Swaps.{swap-laid, swap-step, swaps}
 use Rattle.replacing.proofs.swap_all.Statement.{statement}
 use Rattle.replacing.proofs.swap_all.Tie as tie

@@ -1,0 +1,2 @@
+-- What the contracts of `replace_in` cite.
+pub mod Words
