@@ -13,6 +13,20 @@ use Rattle.tables.specs.Layout.{store}
 use Rattle.tables.proofs.Building.{cell-putNode}
 use Rattle.tables.proofs.Places.{cell-store, cell-store-other, length-store}
 
+-- the places are in an area of n words
+module _ (n k : ℕ) where
+  pub used-in : (k < 4096) × (areaSize ≤ n) → useBase + k < n
+  used-in (h, z) = omega arith
+
+  pub sig-in : (k < 2048) × (areaSize ≤ n) → sigBase + k < n
+  sig-in (h, z) = omega arith
+
+  pub start-in : (k < 512) × (areaSize ≤ n) → startBase + k < n
+  start-in (h, z) = omega arith
+
+  pub left-in : (k < 512) × (areaSize ≤ n) → leftBase + k < n
+  left-in (h, z) = omega arith
+
 module _ (l : List ℕ) (k s : ℕ) where
   pub length-putSig : length (putSig l k s) ≡ length l
   unfolding putSig
@@ -212,3 +226,12 @@ pub usedAt-putList : (l : List ℕ) (f : ℕ) (m : List ℕ) (u : ℕ) → u < 4
 unfolding putList
 usedAt-putList l f [] u h = refl
 usedAt-putList l f (x ∷ m) u h = usedAt-putList (putSig l f x) (suc f) m u h ∙ usedAt-putSig l f x u h
+
+-- ---- put_pair
+
+pub pair-start : (l m : List ℕ) (v a : ℕ) → m ≡ putStart l v a → (v < 512) × (areaSize ≤ length l) → (v < 512) × (areaSize ≤ length m)
+pair-start l m v a e (h, z) = (h, rw (e, length-putStart) z)
+
+pub pair-put : (l m o : List ℕ) (v a b : ℕ) → m ≡ putStart l v a → o ≡ putLeft m v b → o ≡ putPair l v a b
+unfolding putPair
+pair-put l m o v a b em eo = rw (← em) eo

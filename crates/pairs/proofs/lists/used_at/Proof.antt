@@ -1,16 +1,16 @@
 -- `used_at`: each need by its law.
-use borrow.Author.Needs.{needs}
+use Rattle.pairs.proofs.Places.{used-in}
 use Rattle.pairs.specs.Lists.{usedAt}
 use Rattle.pairs.proofs.lists.used_at.Statement.{statement}
 use Rattle.pairs.proofs.lists.used_at.Tie as tie
 
 returns : tie.Need-returns
 unfolding usedAt
-returns c = cc
+returns c = c .word .ensures
 
 pub used-at-spec : {M : Type 1} → statement M
 used-at-spec =
     tie.close
     (tie.spec
-    (λ c κs. search needs)
+    (λ c κs. used-in _ _ (c .before .pre))
     returns)
