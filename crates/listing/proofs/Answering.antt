@@ -11,14 +11,14 @@ use Rattle.model.specs.Listing.{listingOf}
 use Rattle.tables.specs.Holding.{networkOf, Held}
 use Rattle.tables.specs.Working.{Answered}
 use Rattle.tables.specs.declared.counts.Counts.{Counts}
-use Rattle.listing.specs.Putting.{Put}
-use Rattle.listing.proofs.Puts.{putText-laid}
+use Rattle.text_parts.specs.Putting.{Put}
+use Rattle.text_parts.proofs.Puts.{putText-laid}
 use Rattle.listing.proofs.Lengths.{listing-short}
 
-module _ (l : List ℕ) (c : Counts) (H : Held l c) (b b′ : List ℕ) (n : ℕ) (P : Put b 0 (listingOf (networkOf l c)) b′ n) (out : List ℕ) where
-  whole : n ≡ length (listingOf (networkOf l c))
-  whole = omega (arith, P .behind, listing-short (networkOf l c) (H .valid))
+pub listing-whole : (l : List ℕ) (c : Counts) → Held l c → (b b′ : List ℕ) (n : ℕ) → Put b 0 (listingOf (networkOf l c)) b′ n → n ≡ length (listingOf (networkOf l c))
+listing-whole l c H b b′ n P = omega (arith, P .behind, listing-short (networkOf l c) (H .valid))
 
+module _ (l : List ℕ) (c : Counts) (n : ℕ) (whole : n ≡ length (listingOf (networkOf l c))) (out : List ℕ) where
   pub listing-refused : length out < n → Answered (inRoom (length out) 0 (written (listingOf (networkOf l c)) [])) out (Refused 13) out
   listing-refused h =
       let z = lt-leb (length (listingOf (networkOf l c))) (length out) (rw (← whole) h) in

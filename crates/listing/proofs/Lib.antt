@@ -1,5 +1,4 @@
 pub mod Decimals
-pub mod Puts
 pub mod Texts
 pub mod Lines
 pub mod Lengths

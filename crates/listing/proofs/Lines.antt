@@ -16,8 +16,9 @@ use Rattle.tables.specs.Layout.{kindAt, firstAt, countAt, inputAt, lowAt, highA
 use Rattle.tables.specs.Holding.{networkOf, Held}
 use Rattle.tables.specs.declared.counts.Counts.{Counts}
 use Rattle.tables.proofs.Holding.{length-nodesOf, length-outputsOf, nodes-few, outs-few}
-use Rattle.listing.specs.Putting.{Put, Node, Outputs, inputsText}
-use Rattle.listing.proofs.Puts.{put-none, put-then, put-as}
+use Rattle.listing.specs.Fields.{Node, Outputs, headText, inputsText}
+use Rattle.text_parts.specs.Putting.{Put}
+use Rattle.text_parts.proofs.Puts.{put-none, put-then, put-as}
 
 pub spaced-append : (xs ys : List (List ℕ)) → spaced (xs ++ ys) ≡ spaced xs ++ spaced ys
 unfolding spaced
@@ -40,12 +41,16 @@ numbered-tab f g n =
 
 -- ---- put_counts
 
-pub counts-put : (i n o : ℕ) {b : List ℕ} {at : ℕ} {b1 b2 b3 b4 b5 b6 b7 : List ℕ} {p1 p2 p3 p4 p5 p6 r : ℕ} → length b < 2 ^ 64
-    → Put b at (ascii "inputs ") b1 p1 → Put b1 p1 (decimal i) b2 p2 → Put b2 p2 (ascii " nodes ") b3 p3 → Put b3 p3 (decimal n) b4 p4
-    → Put b4 p4 (ascii " outputs ") b5 p5 → Put b5 p5 (decimal o) b6 p6 → Put b6 p6 (ascii "\n") b7 r → Put b at (countsLine i n o) b7 r
+to-right : (a b c d : List ℕ) → ((a ++ b) ++ c) ++ d ≡ a ++ (b ++ (c ++ d))
+to-right a b c d = append-assoc (a ++ b) c d ∙ append-assoc a b (c ++ d)
+
+pub counts-put : (i n o : ℕ) {b : List ℕ} {at : ℕ} {b1 b2 b3 b4 : List ℕ} {p1 p2 p3 r : ℕ} → length b < 2 ^ 64
+    → Put b at (ascii "inputs " ++ decimal i) b1 p1 → Put b1 p1 (ascii " nodes " ++ decimal n) b2 p2
+    → Put b2 p2 (ascii " outputs " ++ decimal o) b3 p3 → Put b3 p3 (ascii "\n") b4 r → Put b at (countsLine i n o) b4 r
 unfolding countsLine line spaced
-counts-put i n o l P1 P2 P3 P4 P5 P6 P7 =
-    put-as (simp append-assoc) (put-then l (put-then l (put-then l (put-then l (put-then l (put-then l P1 P2) P3) P4) P5) P6) P7)
+counts-put i n o l P1 P2 P3 P4 =
+    let e = to-right (ascii "inputs " ++ decimal i) (ascii " nodes " ++ decimal n) (ascii " outputs " ++ decimal o) (ascii "\n") in
+    put-as (e ∙ simp append-assoc) (put-then l (put-then l (put-then l P1 P2) P3) P4)
 
 -- ---- put_inputs
 
@@ -86,27 +91,32 @@ module _ (l : List ℕ) (v : ℕ) (b : List ℕ) (at k : ℕ) (q : k ≡ kindAt 
 
 pub ruleset tables = (table-none, table-put)
 
-node-fields : (l : List ℕ) (v k : ℕ) (K : Kind) (first n : ℕ) (ts : List (List ℕ)) → k ≡ kindAt l v → K ≡ kindOf k → first ≡ firstAt l v
-    → n ≡ countAt l v → spaced (kindText (kindOf (gateAt l v .kind)) ∷ (map signalText (gateAt l v .ins) ++ ts))
-    ≡ (32 ∷ kindText K) ++ (inputsText l first n ++ spaced ts)
-unfolding spaced inputsText gateAt insAt
-node-fields l v k K first n ts e f g m =
-    rw (← e, ← f, ← g, ← m)
-    (ap (λ (x : List ℕ). (32 ∷ kindText K) ++ x) (spaced-append (map signalText (tab (λ j. inputAt l (first + j)) n)) ts))
+pub head-put : (v k : ℕ) (K : Kind) {b : List ℕ} {at : ℕ} {b1 b2 b3 : List ℕ} {p1 p2 r : ℕ} → length b < 2 ^ 64 → K ≡ kindOf k
+    → Put b at (120 ∷ decimal v) b1 p1 → Put b1 p1 (32 ∷ []) b2 p2 → Put b2 p2 (kindText K) b3 r → Put b at (headText v k) b3 r
+unfolding headText
+head-put v k K h f P1 P2 P3 = rw (← f) (put-as (append-assoc (120 ∷ decimal v) (32 ∷ []) (kindText K)) (put-then h (put-then h P1 P2) P3))
 
-pub node-put : (l : List ℕ) (v k : ℕ) (K : Kind) (first n : ℕ) {b : List ℕ} {at : ℕ} {b1 b2 b3 b4 b5 b6 : List ℕ} {p1 p2 p3 p4 p5 r : ℕ}
-    → length b < 2 ^ 64 → k ≡ kindAt l v → K ≡ kindOf k → first ≡ firstAt l v → n ≡ countAt l v
-    → Put b at (120 ∷ decimal v) b1 p1 → Put b1 p1 (32 ∷ []) b2 p2 → Put b2 p2 (kindText K) b3 p3 → Put b3 p3 (inputsText l first n) b4 p4
-    → Put b4 p4 (spaced (tableFields (gateAt l v))) b5 p5 → Put b5 p5 (10 ∷ []) b6 r → Put b at (nodeLine v (gateAt l v)) b6 r
-unfolding nodeLine line
-node-put l v k K first n h e f g m P1 P2 P3 P4 P5 P6 =
-    put-as same (put-then h (put-then h (put-then h (put-then h (put-then h P1 P2) P3) P4) P5) P6)
+node-fields : (l : List ℕ) (v k first n : ℕ) (ts : List (List ℕ)) → k ≡ kindAt l v → first ≡ firstAt l v
+    → n ≡ countAt l v → spaced (kindText (kindOf (gateAt l v .kind)) ∷ (map signalText (gateAt l v .ins) ++ ts))
+    ≡ (32 ∷ kindText (kindOf k)) ++ (inputsText l first n ++ spaced ts)
+unfolding spaced inputsText gateAt insAt
+node-fields l v k first n ts e g m =
+    rw (← e, ← g, ← m)
+    (ap (λ (x : List ℕ). (32 ∷ kindText (kindOf k)) ++ x) (spaced-append (map signalText (tab (λ j. inputAt l (first + j)) n)) ts))
+
+pub node-put : (l : List ℕ) (v k first n : ℕ) {b : List ℕ} {at : ℕ} {b1 b2 b3 b4 : List ℕ} {p1 p2 p3 r : ℕ}
+    → length b < 2 ^ 64 → k ≡ kindAt l v → first ≡ firstAt l v → n ≡ countAt l v
+    → Put b at (headText v k) b1 p1 → Put b1 p1 (inputsText l first n) b2 p2
+    → Put b2 p2 (spaced (tableFields (gateAt l v))) b3 p3 → Put b3 p3 (10 ∷ []) b4 r → Put b at (nodeLine v (gateAt l v)) b4 r
+unfolding nodeLine line headText
+node-put l v k first n h e g m P1 P2 P3 P4 =
+    put-as same (put-then h (put-then h (put-then h P1 P2) P3) P4)
   where
     fields : spaced (kindText (kindOf (gateAt l v .kind)) ∷ (map signalText (gateAt l v .ins) ++ tableFields (gateAt l v)))
-        ≡ (32 ∷ kindText K) ++ (inputsText l first n ++ spaced (tableFields (gateAt l v)))
-    fields = node-fields l v k K first n (tableFields (gateAt l v)) e f g m
+        ≡ (32 ∷ kindText (kindOf k)) ++ (inputsText l first n ++ spaced (tableFields (gateAt l v)))
+    fields = node-fields l v k first n (tableFields (gateAt l v)) e g m
 
-    same : (((((120 ∷ decimal v) ++ (32 ∷ [])) ++ kindText K) ++ inputsText l first n) ++ spaced (tableFields (gateAt l v))) ++ (10 ∷ [])
+    same : ((((120 ∷ decimal v) ++ (32 ∷ kindText (kindOf k))) ++ inputsText l first n) ++ spaced (tableFields (gateAt l v))) ++ (10 ∷ [])
         ≡ (120 ∷ decimal v) ++ (spaced (kindText (kindOf (gateAt l v .kind)) ∷ (map signalText (gateAt l v .ins) ++ tableFields (gateAt l v))) ++ (10 ∷ []))
     same = rw fields (simp append-assoc)
 

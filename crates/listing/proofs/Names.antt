@@ -7,7 +7,7 @@ use lib.ListN.{take, drop}
 use Rattle.kinds.specs.declared.Kind.{Kind}
 use Rattle.kinds.specs.declared.Kind.the-variants.{And2, Xor2, And3, Xor3, Maj, Mux, AndN, OrN, NandN, NorN, XorN, XnorN, Buf, Dff, Lut}
 use Rattle.model.specs.Listing.{ascii, kindText}
-use Rattle.listing.specs.Putting.{Put}
+use Rattle.text_parts.specs.Putting.{Put}
 use Rattle.listing.specs.Naming.{nameStart, nameEnd}
 
 abbrev names : List ℕ

@@ -12,9 +12,9 @@ use Rattle.model.specs.Signal.{isInverted, isInput, isConstant}
 use Rattle.model.specs.Listing.{decimal, markText, signalText}
 use Rattle.model.proofs.Words.{inv-odd, inv-even, constant-ref, var-ref, input-ref}
 use Rattle.signal.proofs.Masks.{input-high, some-low}
-use Rattle.listing.specs.Putting.{Put}
+use Rattle.text_parts.specs.Putting.{Put}
 use Rattle.listing.proofs.Decimals.{decimal-low, decimal-high}
-use Rattle.listing.proofs.Puts.{put-none, put-then}
+use Rattle.text_parts.proofs.Puts.{put-none, put-then}
 
 module _ (b : List ℕ) (at n : ℕ) where
   pub number-low : n < 10 → (x : ℕ) → x ≡ 48 + n → (b′ : List ℕ) (r : ℕ) → Put b at (x ∷ []) b′ r → Put b at (decimal n) b′ r
@@ -30,14 +30,7 @@ module _ (b : List ℕ) (at n : ℕ) where
 
 pub ruleset numbers = (number-low, number-high, name-put)
 
--- ---- put_mark and put_signal
-
-module _ (b : List ℕ) (at : ℕ) (t : Bool) where
-  pub mark-put : t ≡ true → (b′ : List ℕ) (r : ℕ) → Put b at (33 ∷ []) b′ r → Put b at (markText t) b′ r
-  mark-put e b′ r P = rw e P
-
-  pub mark-none : t ≡ false → at < 2 ^ 64 → Put b at (markText t) b at
-  mark-none e h = rw e (put-none b at h)
+-- ---- put_signal
 
 constant-bit : (s : ℕ) → s / 2 ≡ 0 → bit (isInverted s) ≡ s
 constant-bit s h =
@@ -65,4 +58,4 @@ module _ (b : List ℕ) (at s : ℕ) (t : Bool) (e : t ≡ isConstant s) where
         let low : s < 2147483648 = ltb-true s 2147483648 (not-false _ (sym g ∙ k)) in
         rw (var-ref s (some-low s t e h) low, ← f, ← q) (put-then l P Q)
 
-pub ruleset signals = (mark-put, mark-none, input-high, some-low, signal-constant, signal-input, signal-var)
+pub ruleset signals = (input-high, some-low, signal-constant, signal-input, signal-var)

@@ -1,2 +1,2 @@
-pub mod Putting
+pub mod Fields
 pub mod Naming

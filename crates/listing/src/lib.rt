@@ -1,14 +1,15 @@
 // A network as text, into a lent buffer. First its length, then 13 or the bytes, and nothing past them.
 ghost use mathlib.Core.Path.{_≡_};
-ghost use mathlib.Core.List.{[]};
+ghost use mathlib.Core.List.{[], _++_};
 ghost use Prim.Native.Nat.{_+_, _*_, _<_};
 ghost use lib.ListN.{length};
 ghost use Rattle.model.specs.Answers.{written, inRoom};
-ghost use Rattle.model.specs.Listing.{spaced, numbered, countsLine, tableFields, nodeLine, outputLine, listingOf};
+ghost use Rattle.model.specs.Listing.{decimal, spaced, numbered, countsLine, tableFields, nodeLine, outputLine, listingOf};
 ghost use Rattle.tables.specs.Layout.{gateAt, nodesOf, outputsOf};
 ghost use Rattle.tables.specs.Holding.{networkOf, Held};
 ghost use Rattle.tables.specs.Working.{Answered};
-ghost use Rattle.listing.specs.Putting.{Put, Node, Inputs, Outputs, inputsText};
+ghost use Rattle.text_parts.specs.Putting.{Put};
+ghost use Rattle.listing.specs.Fields.{Node, Inputs, Outputs, headText, inputsText};
 use answers::Answer;
 use kinds::kind_of;
 use signal::Signal;
@@ -20,25 +21,31 @@ use tables::layout::input_at;
 use tables::layout::kind_at;
 use tables::layout::low_at;
 use tables::layout::output_at;
-use text::put;
 use text::put_all;
 use text::put_kind;
 use text::put_name;
 use text::put_number;
 use text::put_signal;
+use text_parts::put;
+use text_parts::table;
 
 pub mod text;
+
+// A text, and a number behind it.
+fn put_field(out: &mut [u8], at: usize, text: &[u8], n: usize) -> usize
+    ensures { λ r. ⌜ Put (now (out .entry)) at (now (text .entry) ++ decimal n) (now (out .exit)) r ⌝ }
+{
+    let p = put_all(out, at, text);
+    put_number(out, p, n as u64)
+}
 
 // Line one: the counts.
 fn put_counts(counts: Counts, out: &mut [u8], at: usize) -> usize
     ensures { λ r. ⌜ Put (now (out .entry)) at (countsLine (counts .inputs) (counts .nodes) (counts .outs)) (now (out .exit)) r ⌝ }
 {
-    let inputs = put_all(out, at, b"inputs ");
-    let i = put_number(out, inputs, counts.inputs as u64);
-    let nodes = put_all(out, i, b" nodes ");
-    let n = put_number(out, nodes, counts.nodes as u64);
-    let outputs = put_all(out, n, b" outputs ");
-    let o = put_number(out, outputs, counts.outs as u64);
+    let i = put_field(out, at, b"inputs ", counts.inputs);
+    let n = put_field(out, i, b" nodes ", counts.nodes);
+    let o = put_field(out, n, b" outputs ", counts.outs);
     put(out, o, b'\n')
 }
 
@@ -63,13 +70,6 @@ fn put_inputs(from: &[u32], first: usize, n: usize, out: &mut [u8], at: usize) -
     p
 }
 
-// A table from its two words.
-fn table(low: u32, high: u32) -> u64
-    ensures { λ r. ⌜ r ≡ low + 4294967296 * high ⌝ }
-{
-    low as u64 + 0x1_0000_0000 * (high as u64)
-}
-
 // A Lut's table, with a space before it; nothing for other kinds.
 fn put_table(from: &[u32], v: usize, out: &mut [u8], at: usize) -> usize
     requires { ⌜ Node (now from) v ⌝ }
@@ -82,15 +82,22 @@ fn put_table(from: &[u32], v: usize, out: &mut [u8], at: usize) -> usize
     put_number(out, space, table(low_at(from, v), high_at(from, v)))
 }
 
+// Node v's name and kind.
+fn put_head(v: usize, kind: u32, out: &mut [u8], at: usize) -> usize
+    ensures { λ r. ⌜ Put (now (out .entry)) at (headText v kind) (now (out .exit)) r ⌝ }
+{
+    let name = put_name(out, at, b'x', v as u64);
+    let space = put(out, name, b' ');
+    put_kind(out, space, kind_of(kind))
+}
+
 // Node v's line.
 fn put_node(from: &[u32], v: usize, out: &mut [u8], at: usize) -> usize
     requires { ⌜ Node (now from) v ⌝ }
     ensures { λ r. ⌜ Put (now (out .entry)) at (nodeLine v (gateAt (now (from .entry)) v)) (now (out .exit)) r ⌝ }
 {
-    let name = put_name(out, at, b'x', v as u64);
-    let space = put(out, name, b' ');
-    let kind = put_kind(out, space, kind_of(kind_at(from, v)));
-    let inputs = put_inputs(from, first_at(from, v), count_at(from, v), out, kind);
+    let head = put_head(v, kind_at(from, v), out, at);
+    let inputs = put_inputs(from, first_at(from, v), count_at(from, v), out, head);
     let end = put_table(from, v, out, inputs);
     put(out, end, b'\n')
 }
@@ -144,13 +151,21 @@ fn put_listing(from: &[u32], counts: Counts, out: &mut [u8]) -> usize
     put_outputs(from, counts.outs, out, nodes)
 }
 
+// The text's length.
+fn listing_len(from: &[u32], counts: Counts) -> usize
+    requires { ⌜ Held (now from) counts ⌝ }
+    ensures { λ r. ⌜ r ≡ length (listingOf (networkOf (now (from .entry)) counts)) ⌝ }
+{
+    let mut none = [0u8; 0];
+    put_listing(from, counts, &mut none)
+}
+
 // The text of the network in an area.
 pub fn listing(from: &[u32], counts: Counts, out: &mut [u8]) -> Answer
     requires { ⌜ Held (now from) counts ⌝ }
     ensures { λ r. ⌜ Answered (inRoom (length (now (out .entry))) 0 (written (listingOf (networkOf (now (from .entry)) counts)) [])) (now (out .entry)) r (now (out .exit)) ⌝ }
 {
-    let mut none = [0u8; 0];
-    let len = put_listing(from, counts, &mut none);
+    let len = listing_len(from, counts);
     if out.len() < len {
         return Answer::Refused(13);
     }

@@ -4,32 +4,13 @@ ghost use mathlib.Core.Path.{_≡_};
 ghost use mathlib.Core.List.{[], _∷_};
 ghost use Prim.Native.Nat.{_+_, _-_, _<_, _≤_};
 ghost use lib.ListN.{length, take, drop};
-ghost use Rattle.model.specs.Listing.{decimal, markText, signalText, kindText};
-ghost use Rattle.listing.specs.Putting.{place, Put};
+ghost use Rattle.model.specs.Listing.{decimal, signalText, kindText};
+ghost use Rattle.text_parts.specs.Putting.{Put};
 ghost use Rattle.listing.specs.Naming.{nameStart, nameEnd};
 use kinds::Kind;
 use signal::Signal;
-
-// The place behind one byte. The greatest place stands for all beyond.
-fn next(at: usize) -> usize
-    ensures { λ r. ⌜ r ≡ place (at + 1) ⌝ }
-{
-    if at < 0xFFFF_FFFF_FFFF_FFFF {
-        at + 1
-    } else {
-        at
-    }
-}
-
-pub fn put(out: &mut [u8], at: usize, b: u8) -> usize
-    ensures { λ r. ⌜ Put (now (out .entry)) at (b ∷ []) (now (out .exit)) r ⌝ }
-{
-    if out.len() <= at {
-        return next(at);
-    }
-    out[at] = b;
-    at + 1
-}
+use text_parts::put;
+use text_parts::put_mark;
 
 pub fn put_all(out: &mut [u8], at: usize, text: &[u8]) -> usize
     ensures { λ r. ⌜ Put (now (out .entry)) at (now (text .entry)) (now (out .exit)) r ⌝ }
@@ -67,13 +48,6 @@ pub fn put_name(out: &mut [u8], at: usize, letter: u8, n: u64) -> usize
 {
     let p = put(out, at, letter);
     put_number(out, p, n)
-}
-
-// ! where it is inverted.
-pub fn put_mark(out: &mut [u8], at: usize, inverted: bool) -> usize
-    ensures { λ r. ⌜ Put (now (out .entry)) at (markText inverted) (now (out .exit)) r ⌝ }
-{
-    if inverted { put(out, at, b'!') } else { at }
 }
 
 // 0, 1, x3 or i2, and ! before where it is inverted.

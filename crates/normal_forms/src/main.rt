@@ -7,10 +7,10 @@ use gates::Normalization;
 use kinds::Kind;
 use libc::STDIN_FILENO;
 use libc::STDOUT_FILENO;
-use listing::text::put;
 use listing::text::put_all;
-use listing::text::put_mark;
 use listing::text::put_signal;
+use text_parts::put;
+use text_parts::put_mark;
 
 mod records;
 mod text;

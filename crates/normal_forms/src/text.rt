@@ -1,10 +1,10 @@
 // Gates as text, put into a lent buffer at a place: each function answers the place behind.
 use kinds::Kind;
-use listing::text::put;
 use listing::text::put_kind;
 use listing::text::put_number;
 use listing::text::put_signal;
 use signal::Signal;
+use text_parts::put;
 
 // The first n signals of a list, a space before each.
 fn put_signals(out: &mut [u8], at: usize, list: &[u32], n: usize) -> usize {

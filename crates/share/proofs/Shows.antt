@@ -15,9 +15,9 @@ use Rattle.model.specs.Answers.{Outcome, refused, written, evaluated, answerOf,
 use Rattle.model.specs.Image.{refusalOf, netOf}
 use Rattle.model.specs.Listing.{ascii, decimal, line, spaced, listingOf}
 use Rattle.tables.specs.Working.{Answered}
-use Rattle.listing.specs.Putting.{Put}
+use Rattle.text_parts.specs.Putting.{Put}
 use Rattle.listing.proofs.Decimals.{decimal-short}
-use Rattle.listing.proofs.Puts.{put-then, put-as, putText-laid}
+use Rattle.text_parts.proofs.Puts.{put-then, put-as, putText-laid}
 use Rattle.share.specs.Texts.{refusedText, listOutcome, textFor, printedFor, printedOf, Shown}
 
 -- ---- refuse

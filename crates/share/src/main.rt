@@ -9,12 +9,12 @@ use answers::Answer;
 use libc::STDIN_FILENO;
 use libc::STDOUT_FILENO;
 use listing::listing;
-use listing::text::put;
 use listing::text::put_all;
 use listing::text::put_number;
 use load::Loaded;
 use load::load_image;
 use sharing::share::share;
+use text_parts::put;
 use words::word_at;
 
 // `refused` and the number, at the front of the text. Its length, as each of these answers.

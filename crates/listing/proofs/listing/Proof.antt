@@ -8,7 +8,6 @@ pub listing-spec : {M : Type 1} → statement M
 listing-spec =
     tie.close
     (tie.spec
-    (λ c. search needs)
     (λ c κs. search needs)
     (λ c. search (needs, answering))
     (λ c κs. search needs)

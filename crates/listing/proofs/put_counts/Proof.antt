@@ -7,16 +7,12 @@ use Rattle.listing.proofs.put_counts.Tie as tie
 
 returns : tie.Need-returns
 returns c =
-    let p7 = c .before .before in
-    let p6 = p7 .before .before .before .before in
-    let p5 = p6 .before .before .before .before in
-    let p4 = p5 .before .before .before .before .before in
+    let p4 = c .before .before in
     let p3 = p4 .before .before .before .before in
     let p2 = p3 .before .before .before .before .before in
-    let p1 = p2 .before .before .before .before in
+    let p1 = p2 .before .before .before .before .before in
     let start = p1 .before .before .before .before in
-    counts-put _ _ _ (omega arith) (p1 .put-all .ensures) (p2 .put-number .ensures) (p3 .put-all2 .ensures) (p4 .put-number2 .ensures)
-    (p5 .put-all3 .ensures) (p6 .put-number3 .ensures) (p7 .put .ensures)
+    counts-put _ _ _ (omega arith) (p1 .put-field .ensures) (p2 .put-field2 .ensures) (p3 .put-field3 .ensures) (p4 .put .ensures)
 
 pub put-counts-spec : {M : Type 1} → statement M
 put-counts-spec =
@@ -24,12 +20,9 @@ put-counts-spec =
     (tie.spec
     (λ c. search needs)
     (λ c κs. search needs)
-    (λ c κs. search needs)
     (λ c. search needs)
     (λ c κs. search needs)
-    (λ c κs. search needs)
     (λ c. search needs)
-    (λ c κs. search needs)
     (λ c κs. search needs)
     (λ c κs. search needs)
     (λ c. search needs)

@@ -4,7 +4,8 @@ use native.Mathlib.Omega.{arith}
 use Prim.Native.Nat.{_≤_, _-_}
 use mathlib.Core.Path.{_≡_}
 use lib.ListN.{length}
-use Rattle.listing.specs.Putting.{Put, inputsText}
+use Rattle.text_parts.specs.Putting.{Put}
+use Rattle.listing.specs.Fields.{inputsText}
 use Rattle.listing.proofs.Lines.{inputs, inputs-next}
 use Rattle.listing.proofs.put_inputs.Statement.{statement}
 use Rattle.listing.proofs.put_inputs.Tie as tie

@@ -6,7 +6,7 @@ use mathlib.Core.Path.{_≡_}
 use lib.ListN.{length}
 use Rattle.model.specs.Listing.{numbered, nodeLine}
 use Rattle.tables.specs.Layout.{nodesOf}
-use Rattle.listing.specs.Putting.{Put}
+use Rattle.text_parts.specs.Putting.{Put}
 use Rattle.listing.proofs.Lines.{walks, nodes-next}
 use Rattle.listing.proofs.put_nodes.Statement.{statement}
 use Rattle.listing.proofs.put_nodes.Tie as tie

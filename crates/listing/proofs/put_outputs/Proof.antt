@@ -5,7 +5,7 @@ use mathlib.Core.Path.{_≡_}
 use lib.ListN.{length}
 use Rattle.model.specs.Listing.{numbered, outputLine}
 use Rattle.tables.specs.Layout.{outputsOf}
-use Rattle.listing.specs.Putting.{Put}
+use Rattle.text_parts.specs.Putting.{Put}
 use Rattle.listing.proofs.Lines.{outputs}
 use Rattle.listing.proofs.put_outputs.Statement.{statement}
 use Rattle.listing.proofs.put_outputs.Tie as tie

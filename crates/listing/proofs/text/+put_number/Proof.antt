@@ -8,7 +8,7 @@ use Rattle.listing.proofs.text.put_number.Reads as put-number
 use Rattle.listing.proofs.text.put_number.Kinds as put-number-kinds
 use Rattle.listing.proofs.text.+put_number.Lts-put_number as put-number-lts
 use Rattle.listing.proofs.text.digit.Reads as digit-reads
-use Rattle.listing.proofs.text.put.Reads as put-reads
+use Rattle.text_parts.proofs.put.Reads as put-reads
 use Rattle.listing.proofs.text.+put_number.{statement}
 use Rattle.listing.proofs.text.+put_number.Tie.{close}
 

@@ -3,8 +3,8 @@ use Prim.Native.Nat.{_≤_, _-_}
 use mathlib.Core.Path.{_≡_}
 use lib.ListN.{length, take}
 use borrow.Author.Needs.{needs}
-use Rattle.listing.specs.Putting.{Put}
-use Rattle.listing.proofs.Puts.{bytes}
+use Rattle.text_parts.specs.Putting.{Put}
+use Rattle.text_parts.proofs.Puts.{bytes}
 use Rattle.listing.proofs.text.put_all.Statement.{statement}
 use Rattle.listing.proofs.text.put_all.Tie as tie
 

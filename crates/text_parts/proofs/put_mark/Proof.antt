@@ -1,8 +1,8 @@
 -- `put_mark`: each need by its law.
 use borrow.Author.Needs.{needs}
-use Rattle.listing.proofs.Texts.{mark-put, mark-none}
-use Rattle.listing.proofs.text.put_mark.Statement.{statement}
-use Rattle.listing.proofs.text.put_mark.Tie as tie
+use Rattle.text_parts.proofs.Puts.{mark-put, mark-none}
+use Rattle.text_parts.proofs.put_mark.Statement.{statement}
+use Rattle.text_parts.proofs.put_mark.Tie as tie
 
 returns : tie.Need-returns
 returns c =

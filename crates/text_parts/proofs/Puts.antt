@@ -5,11 +5,13 @@ use native.Mathlib.Nat.{le-of-suc-le-suc, not-suc-le-zero}
 use native.Mathlib.Omega.{arith}
 use native.Mathlib.Decide.{decLt}
 use native.Mathlib.Numerals.{add-one}
+use mathlib.Core.Bool.{Bool, true, false}
 use mathlib.Core.List.{List, [], _∷_, _++_}
 use lib.ListN.{length, set, drop, getD, take, length-append, length-set}
 use lib.Seq.{set-out, set-append-seam, append-snoc, take-suc, take-all}
 use Rattle.model.specs.Answers.{laidOver}
-use Rattle.listing.specs.Putting.{place, putText, Put}
+use Rattle.model.specs.Listing.{markText}
+use Rattle.text_parts.specs.Putting.{place, putText, Put}
 
 pub putText-append : (b : List ℕ) (at : ℕ) (xs ys : List ℕ) → putText b at (xs ++ ys) ≡ putText (putText b at xs) (at + length xs) ys
 unfolding putText
@@ -92,3 +94,12 @@ module _ (b : List ℕ) (at : ℕ) (text : List ℕ) where
   all-put i b′ p P h = put-as (take-all i text h) P
 
 pub ruleset bytes = (put-none, byte-past, byte-put, all-none, all-next, all-put)
+
+-- ---- put_mark
+
+module _ (b : List ℕ) (at : ℕ) (t : Bool) where
+  pub mark-put : t ≡ true → (b′ : List ℕ) (r : ℕ) → Put b at (33 ∷ []) b′ r → Put b at (markText t) b′ r
+  mark-put e b′ r P = rw e P
+
+  pub mark-none : t ≡ false → at < 2 ^ 64 → Put b at (markText t) b at
+  mark-none e h = rw e (put-none b at h)

@@ -1,8 +1,8 @@
 -- `put`: each need by its law.
 use borrow.Author.Needs.{needs}
-use Rattle.listing.proofs.Puts.{bytes}
-use Rattle.listing.proofs.text.put.Statement.{statement}
-use Rattle.listing.proofs.text.put.Tie as tie
+use Rattle.text_parts.proofs.Puts.{bytes}
+use Rattle.text_parts.proofs.put.Statement.{statement}
+use Rattle.text_parts.proofs.put.Tie as tie
 
 pub put-spec : {M : Type 1} → statement M
 put-spec =
