@@ -21,9 +21,11 @@ use Rattle.tables.proofs.Holding.{nodes-few}
 use Rattle.write.specs.Writing.{mappingIn, HeldMapped}
 use Rattle.placing.specs.Lists.{normOf}
 use Rattle.dedup.specs.States.{Dedupable, Deduped}
-use Rattle.network_work.specs.Works.{passed, dedupPass, dedupWork}
+use Rattle.network_passes.specs.Passes.{passed}
+use Rattle.network_passes.proofs.Passing.{mapping-is}
+use Rattle.network_work.specs.Works.{dedupPass, dedupWork}
 use Rattle.load.proofs.Loading.{network-passes, network-holds}
-use Rattle.network_work.proofs.Mappings.{mapping-is, load-refused, load-passed}
+use Rattle.network_work.proofs.Mappings.{load-refused, load-passed}
 
 -- ---- the pass
 

@@ -1,6 +1,7 @@
 -- `cleanup`: each need by its law.
 use Rattle.model.specs.Entries.{cleanupOutcome}
-use Rattle.network_work.specs.Works.{cleanupWork, cleanupPass}
+use Rattle.network_work.specs.Works.{cleanupWork}
+use Rattle.network_passes.specs.Passes.{cleanupPass}
 use Rattle.network_work.specs.Tasks.{workOf}
 use borrow.Author.Needs.{needs}
 use Rattle.network.proofs.cleaning.cleanup.Statement.{statement}

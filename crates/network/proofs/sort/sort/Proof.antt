@@ -1,6 +1,7 @@
 -- `sort`: each need by its law.
 use Rattle.model.specs.Entries.{sortOutcome}
-use Rattle.network_work.specs.Works.{sortWork, sortPass}
+use Rattle.network_work.specs.Works.{sortWork}
+use Rattle.network_passes.specs.Passes.{sortPass}
 use Rattle.network_work.specs.Tasks.{workOf}
 use borrow.Author.Needs.{needs}
 use Rattle.network.proofs.sort.sort.Statement.{statement}
