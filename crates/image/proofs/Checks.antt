@@ -11,7 +11,8 @@ use lib.Dec.{leb, eqb}
 use Rattle.model.specs.Gate.{fanin, wired, isTopoSorted}
 use Rattle.model.specs.Image.{words, inputsIn, nodesIn, outsIn, bodyOf, wordsOf, netIn, netOf, framed, within, laid, bodyRefusal, refusalOf, sortedRefusalOf}
 use Rattle.shape.proofs.Accepted.{within-is}
-use Rattle.image.specs.Reader.{bodyNumber, imageNumber, frameOf, framedOf, answer, numberedOf, checkedOf, sortedCheckedOf}
+use Rattle.image_body.specs.Numbers.{bodyNumber}
+use Rattle.image.specs.Reader.{imageNumber, frameOf, framedOf, answer, numberedOf, checkedOf, sortedCheckedOf}
 use Rattle.image.specs.declared.Frame.{Frame}
 use Rattle.image.specs.declared.Checked.{Checked}
 use Rattle.image.specs.declared.Checked.the-variants.{Refused, Sound}
@@ -123,3 +124,13 @@ unfolding numberedOf sortedCheckedOf
 sorted-checked img r e = e ∙ ap (λ (n : ℕ). answer n (frameOf img)) (sorted-number img)
 
 pub ruleset sorts = (plain-checked, sorted-checked)
+
+-- ---- what an answer of `check` says
+
+pub refused-number : (r n : ℕ) (f : Frame) → answer r f ≡ Refused n → r ≢ 0
+refused-number zero n f e = let z : _≡_ {A = ℕ} 0 1 = cc in absurd (omega arith)
+refused-number (suc r) n f e = λ q. omega arith
+
+pub sound-number : (r : ℕ) (g f : Frame) → answer r g ≡ Sound f → (r ≡ 0) × (f ≡ g)
+sound-number zero g f e = (refl, cc)
+sound-number (suc r) g f e = let z : _≡_ {A = ℕ} 0 1 = cc in absurd (omega arith)

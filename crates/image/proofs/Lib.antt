@@ -1,4 +1,2 @@
 pub mod Frames
-pub mod Bodies
 pub mod Checks
-pub mod Places

@@ -6,12 +6,12 @@ ghost use Rattle.model.specs.Image.{recordOf, recordAtOf};
 pub fn record(image: &[u8], k: u32) -> &[u8]
     ensures { λ r. ⌜ now r ≡ recordOf (now (image .entry)) k ⌝ }
 {
-    image::record(image, k)
+    image_record::record(image, k)
 }
 
 // The byte of the image where that part begins; 0 if it is empty.
 pub fn record_at(image: &[u8], k: u32) -> usize
     ensures { λ r. ⌜ r ≡ recordAtOf (now (image .entry)) k ⌝ }
 {
-    image::record_at(image, k)
+    image_record::record_at(image, k)
 }

@@ -14,7 +14,7 @@ use Rattle.image.specs.Reader.{frameOf, answer, checkedOf, sortedCheckedOf}
 use Rattle.image.specs.declared.Frame.{Frame}
 use Rattle.image.specs.declared.Checked as checked
 use Rattle.image.specs.declared.Checked.the-variants as checks
-use Rattle.image.proofs.Places.{refused-number, sound-number}
+use Rattle.image.proofs.Checks.{refused-number, sound-number}
 use Rattle.tables.specs.Layout.{netSize}
 use Rattle.tables.specs.Holding.{Holds}
 use Rattle.tables.specs.declared.counts.Counts.{Counts}

@@ -15,7 +15,7 @@ use Rattle.model.proofs.Bytes.{length-words}
 use Rattle.shape.proofs.Walks.{length-gates}
 use Rattle.records.specs.Layouts.{laidFrom}
 use Rattle.wiring.specs.Reach.{reachFrom, wiringFrom}
-use Rattle.image.specs.Reader.{bodyNumber}
+use Rattle.image_body.specs.Numbers.{bodyNumber}
 use Rattle.records.specs.declared.Laid.{Laid}
 use Rattle.records.specs.declared.Laid.the-variants.{Broken, Inputs}
 use Rattle.wiring.specs.declared.Wiring.{Wiring}

@@ -1,8 +1,8 @@
 -- `record`: each need by its law.
-use Rattle.image.proofs.Places.{parts}
+use Rattle.image_record.proofs.Places.{parts}
 use borrow.Author.Needs.{needs}
-use Rattle.image.proofs.record.Statement.{statement}
-use Rattle.image.proofs.record.Tie as tie
+use Rattle.image_record.proofs.record.Statement.{statement}
+use Rattle.image_record.proofs.record.Tie as tie
 
 pub record-spec : {M : Type 1} → statement M
 record-spec =

@@ -1,8 +1,8 @@
 -- `place_of`: each need by its law.
-use Rattle.image.proofs.Places.{place-bytes, place-is, place-none, place-nth, place-refused, place-size, place-skip, place-start, place-sum}
+use Rattle.image_record.proofs.Places.{place-bytes, place-is, place-none, place-nth, place-refused, place-size, place-skip, place-start, place-sum}
 use borrow.Author.Needs.{needs}
-use Rattle.image.proofs.place_of.Statement.{statement}
-use Rattle.image.proofs.place_of.Tie as tie
+use Rattle.image_record.proofs.place_of.Statement.{statement}
+use Rattle.image_record.proofs.place_of.Tie as tie
 
 skip-requires : tie.Need-skip-requires
 skip-requires c κs =

@@ -1,9 +1,8 @@
 -- Laws of the place of record k.
-use mathlib.Core.Path.{_≡_, refl, sym, ap, _∙_}
-use mathlib.Core.Logic.{_≢_}
+use mathlib.Core.Path.{_≡_, sym, ap, _∙_}
 use mathlib.Core.List.{List}
 use mathlib.Core.Bool.{false, and-false}
-use Prim.Native.Nat.{ℕ, zero, suc, _+_, _-_, _*_, _/_, _^_, _≤_, _<_}
+use Prim.Native.Nat.{ℕ, _+_, _-_, _*_, _/_, _^_, _≤_, _<_}
 use native.Mathlib.Omega.{arith}
 use lib.ListN.{length, getD, take, drop, length-drop}
 use lib.Seq.{take-all}
@@ -16,22 +15,14 @@ use Rattle.shape.proofs.Accepted.{accepted}
 use Rattle.shape.proofs.Back.{length-wordsOf}
 use Rattle.shape.proofs.Records.{record-part, record-at, record-length, record-ends, record-inside}
 use Rattle.records.specs.Layouts.{sizeOf}
-use Rattle.image.specs.Reader.{frameOf, answer, checkedOf, placeOf}
+use Rattle.image.specs.Reader.{frameOf, checkedOf}
 use Rattle.image.specs.declared.Frame.{Frame}
 use Rattle.image.specs.declared.Checked.{Checked}
 use Rattle.image.specs.declared.Checked.the-variants.{Refused, Sound}
-use Rattle.image.specs.declared.Place.{Place}
+use Rattle.image_record.specs.declared.Place.{Place}
+use Rattle.image_record.specs.Holders.{placeOf}
+use Rattle.image.proofs.Checks.{refused-number, sound-number}
 use Rattle.records.proofs.Fits.{size-is}
-
--- ---- what an answer of `check` says
-
-pub refused-number : (r n : ℕ) (f : Frame) → answer r f ≡ Refused n → r ≢ 0
-refused-number zero n f e = let z : _≡_ {A = ℕ} 0 1 = cc in absurd (omega arith)
-refused-number (suc r) n f e = λ q. omega arith
-
-pub sound-number : (r : ℕ) (g f : Frame) → answer r g ≡ Sound f → (r ≡ 0) × (f ≡ g)
-sound-number zero g f e = (refl, cc)
-sound-number (suc r) g f e = let z : _≡_ {A = ℕ} 0 1 = cc in absurd (omega arith)
 
 -- ---- no record
 

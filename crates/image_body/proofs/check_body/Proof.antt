@@ -1,8 +1,8 @@
 -- `check_body`: each need by its law.
-use Rattle.image.proofs.Bodies.{body-absent, body-broken, body-end, body-many, body-short, body-sound, body-unsorted}
+use Rattle.image_body.proofs.Bodies.{body-absent, body-broken, body-end, body-many, body-short, body-sound, body-unsorted}
 use borrow.Author.Needs.{needs}
-use Rattle.image.proofs.check_body.Statement.{statement}
-use Rattle.image.proofs.check_body.Tie as tie
+use Rattle.image_body.proofs.check_body.Statement.{statement}
+use Rattle.image_body.proofs.check_body.Tie as tie
 
 returns-3 : tie.Need-returns-3
 returns-3 c =
