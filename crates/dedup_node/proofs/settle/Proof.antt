@@ -1,9 +1,9 @@
 -- `settle`: each need by its law.
 use mathlib.Core.Path.{_∙_}
 use Rattle.placing.proofs.Standing.{placed-fits, placed-node, settle-room, settle-copy, settle-node}
 use borrow.Author.Needs.{needs}
-use Rattle.placing.proofs.node.settle.Statement.{statement}
-use Rattle.placing.proofs.node.settle.Tie as tie
+use Rattle.dedup_node.proofs.settle.Statement.{statement}
+use Rattle.dedup_node.proofs.settle.Tie as tie
 
 returns : tie.Need-returns
 returns c = settle-copy _ _ _ _ (c .before .before .before .before .before .before .before .before .pre) _ _ _ _ (c .before .before .before .before .before .r .given .1) (c .before .before .put-word .ensures)

@@ -2,9 +2,9 @@
 use native.Mathlib.Nat.{le-refl}
 use mathlib.Core.Path.{ap, _∙_}
 use Rattle.kinds.specs.Kinds.{kindOf}
 use Rattle.placing.proofs.Lookups.{asks-node, asks-gather, asks-lent, lent-back, asks-normal, asks-settle, node-did}
-use Rattle.placing.proofs.node.dedup_node.Statement.{statement}
-use Rattle.placing.proofs.node.dedup_node.Tie as tie
+use Rattle.dedup_node.proofs.dedup_node.Statement.{statement}
+use Rattle.dedup_node.proofs.dedup_node.Tie as tie
 
 normalize-requires : tie.Need-normalize-requires
 normalize-requires c κs =

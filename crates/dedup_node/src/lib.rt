@@ -1,20 +1,20 @@
-// dedup_node: one gate normalized and looked up.
+// One old node of dedup: its gate gathered, normalized and looked up.
 ghost use mathlib.Core.Path.{_≡_};
 ghost use Prim.Native.Nat.{ℕ, _+_, _*_, _^_};
 ghost use lib.ListN.{drop};
 ghost use Rattle.tables.specs.Layout.{gateAt};
 ghost use Rattle.gates.specs.Normals.{normalOf};
 ghost use Rattle.lookup.specs.Lists.{listBase};
 ghost use Rattle.placing.specs.Lists.{trOf, normOf, withTable};
 ghost use Rattle.placing.specs.States.{askedGate, Settles, Asks, Did};
-use crate::Built;
-use crate::list::gather;
-use crate::list::normalize;
-use crate::place::place;
 use gates::Normalization;
 use kinds::code;
 use kinds::kind_of;
 use lookup::LIST;
+use placing::Built;
+use placing::list::gather;
+use placing::list::normalize;
+use placing::place::place;
 use signal::Signal;
 use tables::layout::count_at;
 use tables::layout::first_at;
