@@ -1,5 +1,3 @@
-pub mod Turns
-pub mod Walks
 pub mod Ordering
 pub mod Checks
 pub mod Reordering

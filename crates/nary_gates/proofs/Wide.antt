@@ -14,7 +14,7 @@ use Rattle.laws.specs.Bools.{xor}
 use Rattle.laws.proofs.Bools.{xor-is}
 use Rattle.model.specs.Signal.{flip, withoutInversion, fromBool}
 use Rattle.model.specs.Normal.{Norm, copied, made, gateOf, makeAnd, makeAnd3, makeXor, makeXor3, without, sorted, uniq, opposed, andSome, andWide, andTidy, makeAndN, parity, cancel, xorSome, makeXorN}
-use Rattle.lists.specs.Passes.{Front}
+use Rattle.neighbours.specs.Fronts.{Front}
 use Rattle.gates.specs.Normals.{normalOf, Listed}
 use Rattle.gates.specs.declared.Normalization.the-variants.{Copy, Node}
 use Rattle.gates.proofs.Fronts.{first1, first2, first3}

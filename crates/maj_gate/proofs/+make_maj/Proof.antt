@@ -14,7 +14,7 @@ use Rattle.signal.proofs.Signal.xor.Reads as xor-reads
 use Rattle.maj_gate.proofs.+make_maj.{statement}
 use Rattle.maj_gate.proofs.+make_maj.Tie.{close}
 use borrow.Author.Needs.{needs}
-use Rattle.maj_gate.proofs.Turns.{majLeft, majTurns}
+use Rattle.maj_gate.proofs.Turns.{maj-all, majLeft, majTurns}
 
 abbrev μ-make-maj : Measures 1 make-maj-kinds.ps ℕ
 μ-make-maj κs a = majLeft (a .0 .a) (a .1 .0 .a) (a .1 .1 .0 .a)
@@ -49,4 +49,4 @@ pub +make-maj-spec : {M : Type 1} → statement M
     (λ c. search (needs, majTurns))
     (λ c κs. search (needs, majTurns))
     (λ c. search (needs, majTurns))
-    (λ c. search (needs, majTurns)))
+    (λ c. maj-all _ _ _ _ _ _ _ _ _ (c .before .before .before .before .before .before .before .before .before .before .before .before .before .before .before .before .before .before .sort-3 .ensures .low) (c .before .before .before .before .before .before .before .before .before .before .before .before .before .before .before .before .before .before .sort-3 .ensures .mid) (c .before .before .before .before .before .before .before .before .before .before .before .before .before .before .before .before .before .before .sort-3 .ensures .high) (c .before .before .before .before .before .before .before .before .before .before .before .before .before .before .before .before .before .not .ensures) (c .before .before .before .before .before .before .before .before .before .before .before .before .before .before .before .before .not2 .ensures) (c .before .before .before .before .before .before .before .before .before .before .before .before .if1 .left) (c .before .before .before .before .before .before .before .before .if2 .left) _ _ (c .before .before .before .before .before .before .before .is-inverted .ensures) (c .before .before .before .before .before .before .if3 .left) (c .before .before .before .before .if4 .left) (c .before .before .made-3 .ensures)))

@@ -11,7 +11,7 @@ use Rattle.signal.proofs.Signal.not.Reads as not-reads
 use Rattle.mux_gate.proofs.+make_mux.{statement}
 use Rattle.mux_gate.proofs.+make_mux.Tie.{close}
 use borrow.Author.Needs.{needs}
-use Rattle.mux_gate.proofs.Turns.{muxLeft, muxTurns}
+use Rattle.mux_gate.proofs.Turns.{mux-flip, muxLeft, muxTurns}
 
 abbrev μ-make-mux : Measures 1 make-mux-kinds.ps ℕ
 μ-make-mux κs a = muxLeft (a .0 .a) (a .1 .1 .0 .a)
@@ -39,7 +39,7 @@ pub +make-mux-spec : {M : Type 1} → statement M
     (λ c κs. search (needs, muxTurns))
     (λ c κs. search (needs, muxTurns))
     (λ c. search (needs, muxTurns))
-    (λ c. search (needs, muxTurns))
+    (λ c. mux-flip _ _ _ _ _ _ _ _ _ (c .before .before .before .before .before .before .before .before .before .is-inverted .ensures) (c .before .before .before .before .before .before .before .before .if1 .left) (c .before .before .before .before .before .before .before .is-inverted2 .ensures) (c .before .before .before .before .before .before .if2 .taken) (c .before .before .before .before .before .not2 .ensures) (c .before .before .before .before .not3 .ensures) (c .before .before .make-mux2 .ensures))
     (λ c κs. search (needs, muxTurns))
     (λ c. search (needs, muxTurns))
     (λ c. search (needs, muxTurns)))
