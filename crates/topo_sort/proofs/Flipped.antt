@@ -121,8 +121,6 @@ module _ (from l : List ℕ) (c : Counts) (pos : ℕ) (F : Flips from l c 0 pos)
         order = λ e. sym (F .whole ∙ ap₂ (λ a b. orderFrom l a b) z (let w : c .nodes - pos ≡ c .nodes = omega arith in w));
       }
 
-pub ruleset orders = (order-sound, order-loop, order-full)
-
 -- ---- the network
 
 full : (b : Bool) → Ordered ≡ sortingOf b → b ≡ true
