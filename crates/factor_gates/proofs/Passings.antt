@@ -9,7 +9,7 @@ use Rattle.factor_gates.specs.Passing.{Passed}
 use Rattle.factoring_run.specs.Running.{Finished, Loaded, Sharable}
 use Rattle.factoring_run.proofs.Runs.{finished-laid, finished-le, finished-over, finished-state}
 use Rattle.model.specs.Sharing.{pairPlaces, passRefusal, placesOf, sharedSignals}
-use Rattle.pairs.specs.Lists.{Laid, listsOf}
+use Rattle.pairs.specs.Lists.{listsOf}
 use Rattle.shape.specs.Room.{roomOf}
 use Rattle.tables.specs.Holding.{networkOf}
 use Rattle.tables.specs.Layout.{netOf, nodesOf}
@@ -31,9 +31,6 @@ places-is f from c = refl
 module _ (f : Family) (from o : List ℕ) (c : Counts) (g : ℕ) (S : Sharable f from o c g) where
   places-here : (t : ℕ) → t ≡ placesOf (listsOf o g) → t ≡ pairPlaces f (networkOf from c)
   places-here t e = e ∙ ap placesOf (S .lists .lists) ∙ sym (places-is f from c)
-
-  pub pass-laid : Laid o g
-  pass-laid = S .lists .laid
 
   pub pass-pairs : (t : ℕ) → t ≡ placesOf (listsOf o g) → 4096 < t → Passed f (networkOf from c) o Pairs
   pass-pairs t e h =
@@ -90,7 +87,3 @@ module _ (f : Family) (from o : List ℕ) (c : Counts) (g : ℕ) (S : Sharable f
 
 pub pass-few : (o : List ℕ) (g t : ℕ) → t ≡ placesOf (listsOf o g) → t ≤ 4096 → placesOf (listsOf o g) ≤ 4096
 pass-few o g t e h = omega arith
-
-pub ruleset passes = (pass-laid, pass-pairs, pass-few)
-
-pub ruleset growths = (pass-source, pass-loaded, pass-room, pass-ended, pass-grown)

@@ -1,6 +1,6 @@
 -- `in_areas`: each need by its law.
+use Prim.Native.Nat.{zero-le}
 use mathlib.Core.Path.{refl}
-use borrow.Author.Needs.{needs}
 use Rattle.tables.proofs.Entering.{long-a, long-b, areas-lent, areas-both, same-back, kept-both}
 use Rattle.sharing.proofs.shell.in_areas.Statement.{statement}
 use Rattle.sharing.proofs.shell.in_areas.Tie as tie
@@ -31,15 +31,15 @@ pub in-areas-spec : {M : Type 1} → statement M
 in-areas-spec =
     tie.close
     (tie.spec
-    (λ c. search needs)
-    (λ c. search needs)
+    (λ c. zero-le)
+    (λ c. zero-le)
     (λ c. long-a _ _ _ refl (c .before .before .before .before .before .pre))
-    (λ c. search needs)
-    (λ c. search needs)
+    (λ c. zero-le)
+    (λ c. zero-le)
     (λ c. long-b _ _ _ refl (c .before .before .before .before .before .before .pre))
     (λ c κs. areas-lent _ _ _ refl (c .before .before .before .before .before .before .before .pre))
     clear-areas-requires
-    (λ c. search needs)
+    (λ c. c .before .before .before .before .before .before .before .before .before .before .before .before .before .work .kept .1 .1 .0)
     same-length-2
     same-length-3
     returns)
