@@ -119,7 +119,7 @@ pub extern "C" fn ll_evaluate(
 ) -> u64
     ensures { λ r. ⌜ Exported2 (evaluateOutcome (now (image .entry)) (now (inputs .entry)) (now (state .entry)) (now (outputs .entry)) (now (a .entry)) (now (b .entry))) (now (outputs .entry)) (now (state .entry)) (now (a .entry)) (now (b .entry)) r (now (outputs .exit)) (now (state .exit)) (now (a .exit)) (now (b .exit)) ⌝ }
 {
-    pack(lanternlean::evaluation::evaluate(image, inputs, state, outputs, a, b))
+    pack(evaluation::evaluate(image, inputs, state, outputs, a, b))
 }
 
 // The byte of the image where record k begins, 0 if there is none.

@@ -3,6 +3,7 @@
 ghost use Prim.Native.Nat.{_≤_};
 use answers::Answer;
 use answers::length;
+use evaluation::evaluate;
 use images::AND2;
 use images::AND3;
 use images::DFF;
@@ -13,7 +14,6 @@ use images::X0;
 use images::X1;
 use images::X2;
 use images::X3;
-use lanternlean::evaluation::evaluate;
 use libc::STDOUT_FILENO;
 use network::canonical::canonical;
 use network::deduplicate::dedup;

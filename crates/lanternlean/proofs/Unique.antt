@@ -1,18 +1,12 @@
--- No second answer satisfies the promise of an entry.
-use mathlib.Core.Path.{_≡_}
+-- No second answer satisfies the promise of read.
 use mathlib.Core.List.{List}
 use Prim.Native.Nat.{ℕ}
 use Rattle.answers.specs.declared.Answer.{Answer}
-use Rattle.model.specs.Answers.{Kept, Kept2}
-use Rattle.tables.proofs.Unique.{Same, unique, unique2}
-use Rattle.model.specs.Entries.{readOutcome, evaluateOutcome}
+use Rattle.model.specs.Answers.{Kept}
+use Rattle.tables.proofs.Unique.{Same, unique}
+use Rattle.model.specs.Entries.{readOutcome}
 
 module _ (img out a b : List ℕ) (r s : Answer) (out′ a′ b′ out″ a″ b″ : List ℕ) where
   pub unique-read : Kept (readOutcome img out a b) out a b r out′ a′ b′ → Kept (readOutcome img out a b) out a b s out″ a″ b″
       → Same r out′ a′ b′ s out″ a″ b″
   unique-read = unique (readOutcome img out a b) out a b r s out′ a′ b′ out″ a″ b″
-
-module _ (img ins st out a b : List ℕ) (r s : Answer) (out′ st′ a′ b′ out″ st″ a″ b″ : List ℕ) where
-  pub unique-evaluate : Kept2 (evaluateOutcome img ins st out a b) out st a b r out′ st′ a′ b′ → Kept2 (evaluateOutcome img ins st out a b) out st a b s out″ st″ a″ b″
-      → Same r out′ a′ b′ s out″ a″ b″ × (st′ ≡ st″)
-  unique-evaluate = unique2 (evaluateOutcome img ins st out a b) out a b r s out′ a′ b′ out″ a″ b″ st st′ st″

@@ -9,7 +9,7 @@ use crate::recorded::word;
 use answers::Answer;
 use answers::length;
 use answers::number;
-use lanternlean::evaluation::evaluate;
+use evaluation::evaluate;
 use lanternlean::read::read;
 use lanternlean::record::record;
 use lanternlean::record::record_at;

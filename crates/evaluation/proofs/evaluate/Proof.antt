@@ -2,10 +2,10 @@
 use mathlib.Core.Path.{sym, _∙_}
 use borrow.Author.Needs.{needs}
 use Rattle.model.specs.Entries.{evaluateOutcome}
-use Rattle.lanternlean.specs.Works.{evaluateWork}
+use Rattle.evaluation.specs.Works.{evaluateWork}
 use Rattle.tables.proofs.Entering.{short-kept2}
-use Rattle.lanternlean.proofs.evaluation.evaluate.Statement.{statement}
-use Rattle.lanternlean.proofs.evaluation.evaluate.Tie as tie
+use Rattle.evaluation.proofs.evaluate.Statement.{statement}
+use Rattle.evaluation.proofs.evaluate.Tie as tie
 
 returns : tie.Need-returns
 unfolding evaluateOutcome evaluateWork

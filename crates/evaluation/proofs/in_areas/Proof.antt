@@ -2,8 +2,8 @@
 use mathlib.Core.Path.{refl}
 use borrow.Author.Needs.{needs}
 use Rattle.tables.proofs.Entering.{long-a, long-b, part-long, areas-both, same-back, kept-both2}
-use Rattle.lanternlean.proofs.evaluation.in_areas.Statement.{statement}
-use Rattle.lanternlean.proofs.evaluation.in_areas.Tie as tie
+use Rattle.evaluation.proofs.in_areas.Statement.{statement}
+use Rattle.evaluation.proofs.in_areas.Tie as tie
 
 work-requires : tie.Need-work-requires
 work-requires c κs =

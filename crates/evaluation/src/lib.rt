@@ -1,4 +1,4 @@
-// Evaluation: 1; 2 to 7; 13; 14; or one cycle, by bytes: one for each input, a state byte for each node. A byte for each output is
+// The public entry of evaluation: 1; 2 to 7; 13; 14; or one cycle, by bytes: one for each input, a state byte for each node. A byte for each output is
 // written, and the state bytes of flip-flops only.
 ghost use mathlib.Core.Path.{_≡_};
 ghost use mathlib.Core.Bool.{false};
@@ -7,7 +7,7 @@ ghost use lib.ListN.{length};
 ghost use Rattle.model.specs.Answers.{areasShort, inAreas, Kept2};
 ghost use Rattle.model.specs.Entries.{evaluateOutcome};
 ghost use Rattle.tables.specs.Working.{Answered2};
-ghost use Rattle.lanternlean.specs.Works.{evaluateWork};
+ghost use Rattle.evaluation.specs.Works.{evaluateWork};
 use answers::Answer;
 use load::Loaded;
 use load::load_sorted;

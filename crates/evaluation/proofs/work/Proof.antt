@@ -1,8 +1,8 @@
 -- What loading answered, or the cycle of the network that it put into the area.
 use borrow.Author.Needs.{needs}
-use Rattle.lanternlean.proofs.Working.{works}
-use Rattle.lanternlean.proofs.evaluation.work.Statement.{statement}
-use Rattle.lanternlean.proofs.evaluation.work.Tie as tie
+use Rattle.evaluation.proofs.Working.{works}
+use Rattle.evaluation.proofs.work.Statement.{statement}
+use Rattle.evaluation.proofs.work.Tie as tie
 
 pub work-spec : {M : Type 1} → statement M
 work-spec =
