@@ -18,7 +18,8 @@ use Rattle.tables.specs.Holding.{networkOf}
 use Rattle.tables.specs.Working.{Answered2}
 use Rattle.tables.specs.declared.counts.Counts.{Counts}
 use Rattle.tables.proofs.Holding.{size-network, nodes-few}
-use Rattle.write.specs.Writing.{mappingIn, HeldMapped}
+use Rattle.write_image.specs.Writing.{mappingIn}
+use Rattle.write.specs.Mapping.{HeldMapped}
 use Rattle.topo_sort.specs.Sorts.{Sortable, sortingOf, Sorted}
 use Rattle.topo_sort.specs.declared.Sorting.{Sorting}
 use Rattle.topo_sort.specs.declared.Sorting.the-variants.{Ordered, Looped}

@@ -18,7 +18,8 @@ use Rattle.tables.specs.Holding.{networkOf}
 use Rattle.tables.specs.Working.{Answered2}
 use Rattle.tables.specs.declared.counts.Counts.{Counts}
 use Rattle.tables.proofs.Holding.{nodes-few}
-use Rattle.write.specs.Writing.{mappingIn, HeldMapped}
+use Rattle.write_image.specs.Writing.{mappingIn}
+use Rattle.write.specs.Mapping.{HeldMapped}
 use Rattle.placing.specs.Lists.{normOf}
 use Rattle.dedup.specs.States.{Dedupable, Deduped}
 use Rattle.network_passes.specs.Passes.{passed}

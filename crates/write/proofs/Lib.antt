@@ -1,3 +1,1 @@
-pub mod Stored
-pub mod Sizes
-pub mod Writes
+pub mod Rooms

@@ -1,5 +1,5 @@
 -- `write`: each need by its law.
-use Rattle.write.proofs.Writes.{write-short, write-room, write-done}
+use Rattle.write.proofs.Rooms.{write-short, write-room, write-done}
 use Rattle.write.proofs.write.Statement.{statement}
 use Rattle.write.proofs.write.Tie as tie
 

@@ -2,11 +2,12 @@
 use Prim.Native.Nat.{_≤_, _-_, zero-le}
 use mathlib.Core.Path.{_≡_, refl}
 use lib.ListN.{length}
-use Rattle.write.specs.Writing.{putWords, outsFrom}
+use Rattle.image_trailer.specs.Trailers.{putWords}
+use Rattle.write_image.specs.Writing.{outsFrom}
 use Rattle.laws.proofs.Turns.{turn-fits, turn-less}
-use Rattle.write.proofs.Writes.{outs-none, outs-all, outs-four, outs-at, outs-read, outs-room, outs-next}
-use Rattle.write.proofs.write_outputs.Statement.{statement}
-use Rattle.write.proofs.write_outputs.Tie as tie
+use Rattle.write_image.proofs.Writes.{outs-none, outs-all, outs-four, outs-at, outs-read, outs-room, outs-next}
+use Rattle.write_image.proofs.write_outputs.Statement.{statement}
+use Rattle.write_image.proofs.write_outputs.Tie as tie
 
 abbrev Inv-loop : tie.InvT-loop
 Inv-loop from outs out₀ at j₀ out j = (j ≤ outs) × (length out ≡ length out₀) × (out ≡ putWords out₀ at (outsFrom from j))

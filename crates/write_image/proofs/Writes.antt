@@ -1,33 +1,28 @@
 -- The laws of writing as the code meets them: a premise is a test, a callee's promise or an invariant, as it stands in a need.
 use mathlib.Core.Path.{_≡_, refl, sym, ap, _∙_}
 use mathlib.Core.Logic.{_≢_}
-use mathlib.Core.Bool.{Bool, true, false, cond, _&&_}
-use mathlib.Core.List.{List, [], _∷_, _++_, append-assoc}
-use Prim.Native.Nat.{ℕ, zero, suc, _+_, _-_, _*_, _/_, _%_, _^_, _≤_, _<_}
+use mathlib.Core.List.{List, _∷_, _++_}
+use Prim.Native.Nat.{ℕ, suc, _+_, _-_, _*_, _^_, _≤_, _<_}
 use native.Mathlib.Nat.{le-antisymm}
 use native.Mathlib.Omega.{arith}
 use native.Mathlib.Numerals.{add-one}
 use lib.ListN.{length, set, length-set, length-append}
-use lib.Dec.{leb}
-use borrow.Author.Tests.{le-leb, lt-leb, leb-true}
 use mir.Val.{Fits}
 use mir.Syntax.{w32, w64}
-use Rattle.answers.specs.declared.Answer.the-variants.{Accepted, Refused}
 use Rattle.laws.specs.Lists.{tab}
 use Rattle.laws.proofs.Tabs.{length-tab}
 use Rattle.model.specs.Image.{tableWords, gateWords, gatesWords, bodyWords, netWords, imageOf}
-use Rattle.model.specs.Answers.{written, laidOver, inRoom}
+use Rattle.model.specs.Answers.{laidOver}
 use Rattle.model.proofs.Bytes.{length-bytes}
 use Rattle.words.specs.Stores.{putWord}
 use Rattle.tables.specs.Layout.{netSize, kindAt, firstAt, countAt, inputAt, lowAt, highAt, outputAt, insAt, gateAt, nodesOf, outputsOf, netOf, cell, trBase}
 use Rattle.tables.specs.Holding.{networkOf, Held}
-use Rattle.tables.specs.Working.{Answered, Answered2}
 use Rattle.tables.specs.declared.counts.Counts.{Counts}
-use Rattle.tables.proofs.Places.{lowAt-fits}
-use Rattle.tables.proofs.Holding.{length-insAt, length-nodesOf, length-outputsOf, inputs-few, nodes-few, outs-few, kind-known, size-network}
-use Rattle.write.specs.Writing.{putWords, insFrom, outsFrom, trailerWords, mappingIn, Node, Inputs, Writes, Put, Room, Outputs, Trailer, Mapped, HeldMapped}
-use Rattle.write.proofs.Stored.{length-putWords, putWords-append, putWords-one, putWords-laid, put-none, put-more, put-next, laid-none, laid-next}
-use Rattle.write.proofs.Sizes.{table-plain, table-lut, length-table, record-words, length-record, words-none, words-next, length-next, length-within, length-image, words-few}
+use Rattle.tables.proofs.Holding.{length-nodesOf, inputs-few, nodes-few, outs-few, kind-known}
+use Rattle.image_trailer.specs.Trailers.{putWords, trailerWords, Trailer}
+use Rattle.write_image.specs.Writing.{insFrom, outsFrom, mappingIn, Node, Inputs, Writes, Put, Room, Outputs, Mapped}
+use Rattle.write_image.proofs.Stored.{putWords-append, putWords-laid, put-none, put-more, put-next, laid-none, laid-next}
+use Rattle.write_image.proofs.Sizes.{table-plain, table-lut, length-table, record-words, length-record, words-none, words-next, length-next, length-within, length-image, words-few}
 
 -- ---- record_len and image_len
 
@@ -239,39 +234,6 @@ module _ (l out₀ : List ℕ) (v : ℕ) (out : List ℕ) (at : ℕ) (P : Put ou
 pub nodes-count : (l out : List ℕ) (c : Counts) (v : ℕ) (ws : List ℕ) → Room l c ws out → v < c .nodes → Fits w64 (v + 1)
 nodes-count l out c v ws R h = record { fits = omega (arith, nodes-few l c (R .held)) }
 
--- ---- write_trailer
-
-module _ (c : Counts) (b : List ℕ) (at : ℕ) (T : Trailer c b at) where
-  pub trailer-inputs : Fits w32 (c .inputs)
-  trailer-inputs = record { fits = omega (arith, T .inputs-few) }
-
-  pub trailer-nodes : Fits w32 (c .nodes)
-  trailer-nodes = record { fits = omega (arith, T .nodes-few) }
-
-  pub trailer-outs : Fits w32 (c .outs)
-  trailer-outs = record { fits = omega (arith, T .outs-few) }
-
-  -- the words' places
-  pub trailer-at : (k : ℕ) → leb k 16 ≡ true → Fits w64 (at + k)
-  trailer-at k h = record { fits = omega (arith, T .few, leb-true k 16 h) }
-
-  pub trailer-end : Fits w32 (at + 16)
-  trailer-end = record { fits = omega (arith, T .few) }
-
-  pub trailer-first : at + 4 ≤ length b
-  trailer-first = omega (arith, T .room)
-
-  pub trailer-room : (k n : ℕ) → leb k 12 ≡ true → n ≡ length b → at + k + 4 ≤ n
-  trailer-room k n h e = omega (arith, T .room, leb-true k 12 h)
-
-pub trailer-put : (c : Counts) (b : List ℕ) (at : ℕ) (b1 b2 b3 b4 : List ℕ) → b1 ≡ putWord b at (c .inputs) → b2 ≡ putWord b1 (at + 4) (c .nodes)
-    → b3 ≡ putWord b2 (at + 8) (c .outs) → b4 ≡ putWord b3 (at + 12) (at + 16) → b4 ≡ putWords b at (trailerWords c at)
-unfolding putWords
-trailer-put c b at b1 b2 b3 b4 e1 e2 e3 e4 =
-    let p : at + 4 + 4 ≡ at + 8 = omega arith in
-    let q : at + 8 + 4 ≡ at + 12 = omega arith in
-    rw (p, q, ← e1, ← e2, ← e3) e4
-
 -- ---- write_image
 
 module _ (l : List ℕ) (c : Counts) where
@@ -359,48 +321,3 @@ module _ (l : List ℕ) (old : ℕ) (map₀ : List ℕ) (M : Mapped l old map₀
         length-set map i x ∙ I .1,
         rw (I .2, k, add-one) (laid-next (tab (cell l trBase) i) map₀ i (cell l trBase i) (length-tab (cell l trBase) i) (omega (arith, M .room))),
       )
-
--- ---- write
-
-pub mapped-room : (l : List ℕ) (c : Counts) (old : ℕ) (map : List ℕ) → HeldMapped l c old → old ≤ length map → Mapped l old map
-mapped-room l c old map M k = record { inside = M .inside; room = k }
-
-module _ (l : List ℕ) (c : Counts) (out : List ℕ) (n : ℕ) (e : n ≡ length (imageOf (networkOf l c))) where
-  pub write-short : length out < n → Answered (inRoom (length out) 0 (written (imageOf (networkOf l c)) [])) out (Refused 13) out
-  write-short h = let z = lt-leb (length (imageOf (networkOf l c))) (length out) (rw (← e) h) in record { answer = rw z; result = rw z }
-
-  pub write-done : n ≤ length out → (out′ : List ℕ) → out′ ≡ laidOver (imageOf (networkOf l c)) out
-      → Answered (inRoom (length out) 0 (written (imageOf (networkOf l c)) [])) out (Accepted n) out′
-  write-done h out′ q = let z = le-leb (length (imageOf (networkOf l c))) (length out) (rw (← e) h) in record { answer = rw (z, e); result = rw z q }
-
-  pub write-room : Held l c → n ≤ length out → Room l c (netWords (networkOf l c)) out
-  unfolding imageOf
-  write-room H h = record { held = H; room = omega (arith, length-bytes (netWords (networkOf l c))) }
-
-  -- with a mapping: m is the length lent for it
-  module _ (old : ℕ) (map : List ℕ) (M : HeldMapped l c old) where
-    length-mapping : length (mappingIn l old) ≡ old
-    unfolding mappingIn
-    length-mapping = length-tab (cell l trBase) old
-
-    pub mapped-short : length out < n
-        → Answered2 (inRoom (length out) (length map) (written (imageOf (networkOf l c)) (mappingIn l old))) out map (Refused 13) out map
-    mapped-short h =
-        let z = lt-leb (length (imageOf (networkOf l c))) (length out) (rw (← e) h) in
-        record { first = record { answer = rw z; result = rw z }; second-is = rw z }
-
-    module _ (h : n ≤ length out) where
-      fits : leb (length (imageOf (networkOf l c))) (length out) ≡ true
-      fits = le-leb (length (imageOf (networkOf l c))) (length out) (rw (← e) h)
-
-      pub map-short : length map < old
-          → Answered2 (inRoom (length out) (length map) (written (imageOf (networkOf l c)) (mappingIn l old))) out map (Refused 13) out map
-      map-short k =
-          let z = lt-leb (length (mappingIn l old)) (length map) (rw length-mapping k) in
-          record { first = record { answer = rw (fits, z); result = rw (fits, z) }; second-is = rw (fits, z) }
-
-      pub mapped-done : old ≤ length map → (out′ map′ : List ℕ) → out′ ≡ laidOver (imageOf (networkOf l c)) out → map′ ≡ laidOver (mappingIn l old) map
-          → Answered2 (inRoom (length out) (length map) (written (imageOf (networkOf l c)) (mappingIn l old))) out map (Accepted n) out′ map′
-      mapped-done k out′ map′ p q =
-          let z = le-leb (length (mappingIn l old)) (length map) (rw length-mapping k) in
-          record { first = record { answer = rw (fits, z, e); result = rw (fits, z) p }; second-is = rw (fits, z) q }

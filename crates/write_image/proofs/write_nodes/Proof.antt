@@ -4,11 +4,11 @@ use mathlib.Core.Path.{_≡_, refl, _∙_}
 use lib.ListN.{length}
 use Rattle.model.specs.Image.{gatesWords}
 use Rattle.tables.specs.Layout.{nodesOf}
-use Rattle.write.specs.Writing.{Put}
+use Rattle.write_image.specs.Writing.{Put}
 use Rattle.laws.proofs.Turns.{turn-less, turn-up}
-use Rattle.write.proofs.Writes.{nodes-none, node-writes, nodes-count, nodes-next, nodes-all}
-use Rattle.write.proofs.write_nodes.Statement.{statement}
-use Rattle.write.proofs.write_nodes.Tie as tie
+use Rattle.write_image.proofs.Writes.{nodes-none, node-writes, nodes-count, nodes-next, nodes-all}
+use Rattle.write_image.proofs.write_nodes.Statement.{statement}
+use Rattle.write_image.proofs.write_nodes.Tie as tie
 
 abbrev Inv-loop : tie.InvT-loop
 Inv-loop from out₀ nodes at₀ v₀ out at v = (v ≤ nodes) × (length out ≡ length out₀) × Put out₀ 0 (gatesWords (nodesOf from v)) out at

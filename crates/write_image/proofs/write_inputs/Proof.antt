@@ -2,11 +2,12 @@
 use Prim.Native.Nat.{_≤_, _-_, zero-le}
 use mathlib.Core.Path.{_≡_, refl}
 use lib.ListN.{length}
-use Rattle.write.specs.Writing.{putWords, insFrom}
+use Rattle.image_trailer.specs.Trailers.{putWords}
+use Rattle.write_image.specs.Writing.{insFrom}
 use Rattle.laws.proofs.Turns.{turn-fits, turn-less}
-use Rattle.write.proofs.Writes.{ins-none, ins-all, ins-four, ins-at, ins-place, ins-asked, ins-room, ins-next}
-use Rattle.write.proofs.write_inputs.Statement.{statement}
-use Rattle.write.proofs.write_inputs.Tie as tie
+use Rattle.write_image.proofs.Writes.{ins-none, ins-all, ins-four, ins-at, ins-place, ins-asked, ins-room, ins-next}
+use Rattle.write_image.proofs.write_inputs.Statement.{statement}
+use Rattle.write_image.proofs.write_inputs.Tie as tie
 
 abbrev Inv-loop : tie.InvT-loop
 Inv-loop from first n out₀ at j₀ out j = (j ≤ n) × (length out ≡ length out₀) × (out ≡ putWords out₀ at (insFrom from first j))

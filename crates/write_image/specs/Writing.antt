@@ -1,28 +1,19 @@
 -- What each part of writing asks and leaves.
 use mathlib.Core.Path.{_≡_}
 use Prim.Native.Nat.{ℕ, _+_, _*_, _≤_, _<_}
-use mathlib.Core.List.{List, [], _∷_}
+use mathlib.Core.List.{List}
 use lib.ListN.{length}
 use Rattle.laws.specs.Lists.{tab}
-use Rattle.words.specs.Stores.{putWord}
 use Rattle.tables.specs.Layout.{netSize, kindAt, firstAt, countAt, inputAt, outputAt, cell, trBase}
 use Rattle.tables.specs.Holding.{Held}
 use Rattle.tables.specs.declared.counts.Counts.{Counts}
-
--- bytes with words stored from `at` on
-unfoldable pub putWords : List ℕ → ℕ → List ℕ → List ℕ
-putWords b at [] = b
-putWords b at (w ∷ ws) = putWords (putWord b at w) (at + 4) ws
+use Rattle.image_trailer.specs.Trailers.{putWords}
 
 unfoldable pub insFrom : List ℕ → ℕ → ℕ → List ℕ
 insFrom l first n = tab (λ j. inputAt l (first + j)) n
 
 unfoldable pub outsFrom : List ℕ → ℕ → List ℕ
 outsFrom l m = tab (outputAt l) m
-
--- a trailer at the byte `at` of an image without prefix
-abbrev pub trailerWords : Counts → ℕ → List ℕ
-trailerWords c at = c .inputs ∷ c .nodes ∷ c .outs ∷ (at + 16) ∷ []
 
 -- the mapping of so many old nodes, in the table behind the network
 unfoldable pub mappingIn : List ℕ → ℕ → List ℕ
@@ -60,18 +51,6 @@ pub record Outputs (l : List ℕ) (m : ℕ) (out : List ℕ) (at : ℕ) : Type 0
   pub few : m ≤ 64
   pub room : at + 4 * m ≤ length out
 
-pub record Trailer (c : Counts) (out : List ℕ) (at : ℕ) : Type 0 where
-  pub inputs-few : c .inputs ≤ 1024
-  pub nodes-few : c .nodes ≤ 512
-  pub outs-few : c .outs ≤ 64
-  pub few : at ≤ 14592
-  pub room : at + 16 ≤ length out
-
 pub record Mapped (l : List ℕ) (old : ℕ) (map : List ℕ) : Type 0 where
   pub inside : trBase + old ≤ length l
   pub room : old ≤ length map
-
--- a network with the mapping of so many old nodes behind it
-pub record HeldMapped (l : List ℕ) (c : Counts) (old : ℕ) : Type 0 where
-  pub held : Held l c
-  pub inside : trBase + old ≤ length l

@@ -13,7 +13,8 @@ use Rattle.model.specs.Answers.{laidOver}
 use Rattle.model.proofs.Bytes.{length-bytes}
 use Rattle.words.specs.Stores.{putWord}
 use Rattle.words.proofs.Laws.{putWord-list, length-putWord}
-use Rattle.write.specs.Writing.{putWords, Put}
+use Rattle.image_trailer.specs.Trailers.{putWords}
+use Rattle.write_image.specs.Writing.{Put}
 
 pub length-putWords : (b : List ℕ) (at : ℕ) (ws : List ℕ) → length (putWords b at ws) ≡ length b
 unfolding putWords

@@ -3,11 +3,11 @@ use Prim.Native.Nat.{_≤_, _-_, zero-le}
 use mathlib.Core.Path.{_≡_, refl}
 use lib.ListN.{length}
 use Rattle.model.specs.Answers.{laidOver}
-use Rattle.write.specs.Writing.{mappingIn}
+use Rattle.write_image.specs.Writing.{mappingIn}
 use Rattle.laws.proofs.Turns.{turn-fits, turn-less}
-use Rattle.write.proofs.Writes.{mapping-none, mapping-all, mapping-read, mapping-place, mapping-room, mapping-next}
-use Rattle.write.proofs.write_mapping.Statement.{statement}
-use Rattle.write.proofs.write_mapping.Tie as tie
+use Rattle.write_image.proofs.Writes.{mapping-none, mapping-all, mapping-read, mapping-place, mapping-room, mapping-next}
+use Rattle.write_image.proofs.write_mapping.Statement.{statement}
+use Rattle.write_image.proofs.write_mapping.Tie as tie
 
 abbrev Inv-loop : tie.InvT-loop
 Inv-loop from old map₀ i₀ map i = (i ≤ old) × (length map ≡ length map₀) × (map ≡ laidOver (mappingIn from i) map₀)

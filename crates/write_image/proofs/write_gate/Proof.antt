@@ -1,8 +1,8 @@
 -- `write_gate`: each need by its law.
 use mathlib.Core.Path.{_∙_}
-use Rattle.write.proofs.Writes.{node-asked, head-room, head-end, count-word, count-high, head-word, ins-bytes, ins-end, gate-inputs, gate-table, gate-put}
-use Rattle.write.proofs.write_gate.Statement.{statement}
-use Rattle.write.proofs.write_gate.Tie as tie
+use Rattle.write_image.proofs.Writes.{node-asked, head-room, head-end, count-word, count-high, head-word, ins-bytes, ins-end, gate-inputs, gate-table, gate-put}
+use Rattle.write_image.proofs.write_gate.Statement.{statement}
+use Rattle.write_image.proofs.write_gate.Tie as tie
 
 pub write-gate-spec : {M : Type 1} → statement M
 write-gate-spec =

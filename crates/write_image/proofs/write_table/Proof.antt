@@ -1,8 +1,8 @@
 -- `write_table`: each need by its law.
 use mathlib.Core.Path.{_∙_}
-use Rattle.write.proofs.Writes.{node-asked, put-plain, low-room, high-room, high-at, table-end, put-lut}
-use Rattle.write.proofs.write_table.Statement.{statement}
-use Rattle.write.proofs.write_table.Tie as tie
+use Rattle.write_image.proofs.Writes.{node-asked, put-plain, low-room, high-room, high-at, table-end, put-lut}
+use Rattle.write_image.proofs.write_table.Statement.{statement}
+use Rattle.write_image.proofs.write_table.Tie as tie
 
 pub write-table-spec : {M : Type 1} → statement M
 write-table-spec =

@@ -5,9 +5,9 @@ use lib.ListN.{length}
 use Rattle.model.specs.Image.{gatesWords}
 use Rattle.tables.specs.Layout.{nodesOf}
 use Rattle.laws.proofs.Turns.{turn-less}
-use Rattle.write.proofs.Writes.{node-held, len-none, len-next, len-fits, len-count, len-all, len-add, len-add4, len-mul}
-use Rattle.write.proofs.image_len.Statement.{statement}
-use Rattle.write.proofs.image_len.Tie as tie
+use Rattle.write_image.proofs.Writes.{node-held, len-none, len-next, len-fits, len-count, len-all, len-add, len-add4, len-mul}
+use Rattle.write_image.proofs.image_len.Statement.{statement}
+use Rattle.write_image.proofs.image_len.Tie as tie
 
 abbrev Inv-loop : tie.InvT-loop
 Inv-loop from counts nodes n₀ v₀ n v = (v ≤ nodes) × (n ≡ length (gatesWords (nodesOf from v)))

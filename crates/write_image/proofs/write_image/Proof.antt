@@ -1,8 +1,8 @@
 -- `write_image`: each need by its law.
 use mathlib.Core.Path.{_∙_}
-use Rattle.write.proofs.Writes.{records-room, outs-fit, end-fit, outs-asked, trailer-asked, image-laid}
-use Rattle.write.proofs.write_image.Statement.{statement}
-use Rattle.write.proofs.write_image.Tie as tie
+use Rattle.write_image.proofs.Writes.{records-room, outs-fit, end-fit, outs-asked, trailer-asked, image-laid}
+use Rattle.write_image.proofs.write_image.Statement.{statement}
+use Rattle.write_image.proofs.write_image.Tie as tie
 
 pub write-image-spec : {M : Type 1} → statement M
 write-image-spec =

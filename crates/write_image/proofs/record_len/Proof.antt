@@ -1,7 +1,7 @@
 -- `record_len`: each need by its law.
-use Rattle.write.proofs.Writes.{node-asked, len-fits3, len-fits1, len-lut, len-plain}
-use Rattle.write.proofs.record_len.Statement.{statement}
-use Rattle.write.proofs.record_len.Tie as tie
+use Rattle.write_image.proofs.Writes.{node-asked, len-fits3, len-fits1, len-lut, len-plain}
+use Rattle.write_image.proofs.record_len.Statement.{statement}
+use Rattle.write_image.proofs.record_len.Tie as tie
 
 pub record-len-spec : {M : Type 1} → statement M
 record-len-spec =

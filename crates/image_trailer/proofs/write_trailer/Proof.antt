@@ -1,8 +1,8 @@
 -- `write_trailer`: each need by its law.
 use mathlib.Core.Path.{refl, _∙_}
-use Rattle.write.proofs.Writes.{trailer-inputs, trailer-nodes, trailer-outs, trailer-at, trailer-end, trailer-first, trailer-room, trailer-put}
-use Rattle.write.proofs.write_trailer.Statement.{statement}
-use Rattle.write.proofs.write_trailer.Tie as tie
+use Rattle.image_trailer.proofs.Fourths.{trailer-inputs, trailer-nodes, trailer-outs, trailer-at, trailer-end, trailer-first, trailer-room, trailer-put}
+use Rattle.image_trailer.proofs.write_trailer.Statement.{statement}
+use Rattle.image_trailer.proofs.write_trailer.Tie as tie
 
 pub write-trailer-spec : {M : Type 1} → statement M
 write-trailer-spec =
