@@ -24,11 +24,12 @@ use Rattle.tables.specs.Layout.{gateAt, nodesOf, cell, store}
 use Rattle.tables.proofs.Places.{length-store, cell-store, cell-store-other}
 use Rattle.tables.proofs.Building.{nodesOf-next, nodesOf-none}
 use Rattle.tables.proofs.Holding.{length-nodesOf}
-use Rattle.lookup.specs.Lists.{listBase, filled, listed, asOption}
+use Rattle.same_gate.specs.Listed.{listBase, listed}
+use Rattle.lookup.specs.Lists.{filled, asOption}
 use Rattle.lookup.specs.Chains.{stir, stirred, bucketOf, bucketsOf, lastIn, headBase, linkBase, Chained, joined, emptied, Seeks}
 use Rattle.lookup.specs.declared.find.Found.{Found}
 use Rattle.lookup.specs.declared.find.Found.the-variants.{At, Nothing}
-use Rattle.lookup.proofs.Searches.{find-none, find-some, find-here}
+use Rattle.same_gate.proofs.Searches.{find-none, find-some, find-here}
 
 -- ---- the bucket of a gate
 

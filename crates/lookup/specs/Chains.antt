@@ -7,7 +7,8 @@ use lib.ListN.{length, getD}
 use lib.Dec.{eqb}
 use Rattle.model.specs.Gate.{Gate}
 use Rattle.tables.specs.Layout.{gateAt, cell, store}
-use Rattle.lookup.specs.Lists.{filled, Searched}
+use Rattle.same_gate.specs.Listed.{Searched}
+use Rattle.lookup.specs.Lists.{filled}
 
 -- Only speed hangs on the numbers: an odd factor, near 2 ^ 30 / 1.618, spreads a word over the high bits; 4294967291 is prime.
 -- one word more stirred into a number below 2 ^ 32

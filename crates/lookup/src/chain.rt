@@ -2,10 +2,10 @@
 ghost use mathlib.Core.Path.{_≡_};
 ghost use Prim.Native.Nat.{ℕ, _+_, _<_, _≤_};
 ghost use lib.ListN.{length};
-ghost use Rattle.lookup.specs.Lists.{listBase, listed};
+ghost use Rattle.same_gate.specs.Listed.{listBase, listed};
 ghost use Rattle.tables.specs.Layout.{cell};
 ghost use Rattle.lookup.specs.Chains.{stir, stirred, bucketOf, joined, emptied};
-use crate::LIST;
+use same_gate::LIST;
 use tables::layout::wide;
 use tables::scratch::put_word;
 use tables::scratch::word;

@@ -15,7 +15,7 @@ use Rattle.tables.specs.Layout.{trBase, firstAt, countAt, inputAt, insAt, cell,
 use Rattle.tables.proofs.Places.{length-store, cell-store, cell-store-other}
 use Rattle.tables.specs.Building.{putNode, putOutputs}
 use Rattle.tables.proofs.Building.{length-putNode, cell-putNode, length-putOutputs, cell-putOutputs}
-use Rattle.lookup.specs.Lists.{listBase}
+use Rattle.same_gate.specs.Listed.{listBase}
 use Rattle.placing.specs.Lists.{trOf, lookedUp, gathered}
 use Rattle.lookup.proofs.Filled.{length-filled, filled-next, cell-filled, cell-filled-other}
 

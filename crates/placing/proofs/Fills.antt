@@ -12,7 +12,8 @@ use mir.Syntax.{w64}
 use Rattle.tables.specs.Layout.{netSize, inputAt, putInput, cell, store}
 use Rattle.tables.specs.Building.{putInputs}
 use Rattle.tables.proofs.Building.{putInputs-next, cell-putInputs}
-use Rattle.lookup.specs.Lists.{listBase, filled}
+use Rattle.same_gate.specs.Listed.{listBase}
+use Rattle.lookup.specs.Lists.{filled}
 use Rattle.placing.specs.Lists.{trOf, lookedUp, gathered, Gathers}
 use Rattle.placing.proofs.Areas.{gathered-next}
 

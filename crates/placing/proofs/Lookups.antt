@@ -27,7 +27,7 @@ use Rattle.gates.specs.declared.Normalization.the-variants.{Copy, Node}
 use Rattle.gates.specs.Normals.{normalOf, Shaped}
 use Rattle.shape.proofs.DedupNormal.{NormLaw, asIs-law, canonical-law, made-few}
 use Rattle.shape.proofs.DedupSweep.{shaped-remap}
-use Rattle.lookup.specs.Lists.{listBase, listed}
+use Rattle.same_gate.specs.Listed.{listBase, listed}
 use Rattle.placing.specs.Lists.{trOf, lookedUp, gathered, normOf, withTable, countOf, Gathers}
 use Rattle.lookup.specs.Chains.{headBase, linkBase}
 use Rattle.placing.specs.States.{workOf, Settles, Asks, Did, askedGate}

@@ -30,7 +30,8 @@ use Rattle.gates.specs.declared.Normalization.the-variants.{Copy, Node}
 use Rattle.gates.specs.Normals.{normalOf}
 use Rattle.signal.specs.declared.Signal.{Signal}
 use Rattle.shape.proofs.DedupPlace.{find-at}
-use Rattle.lookup.specs.Lists.{listBase, listed, asOption, Searched}
+use Rattle.same_gate.specs.Listed.{listBase, listed, Searched}
+use Rattle.lookup.specs.Lists.{asOption}
 use Rattle.placing.specs.Lists.{trOf, withTable, countOf}
 use Rattle.lookup.specs.Chains.{bucketOf, headBase, linkBase, Chained, joined, Seeks}
 use Rattle.placing.specs.States.{Stands, Room, Appended, Placed, Settles, Did}

@@ -10,7 +10,8 @@ use Rattle.model.specs.Network.{asIs}
 use Rattle.tables.specs.Layout.{netSize, trBase, inputAt}
 use Rattle.gates.specs.declared.Normalization.{Normalization}
 use Rattle.gates.specs.declared.Normalization.the-variants.{Copy, Node}
-use Rattle.lookup.specs.Lists.{listBase, filled}
+use Rattle.same_gate.specs.Listed.{listBase}
+use Rattle.lookup.specs.Lists.{filled}
 
 -- the translation that the table of words holds: a signal for each of 512 nodes
 unfoldable pub trOf : List ℕ → ℕ → ℕ

@@ -10,7 +10,7 @@ use Rattle.model.specs.Network.{Work, place, dedupNode}
 use Rattle.tables.specs.Layout.{netSize, firstAt, countAt, gateAt, nodesOf, cell}
 use Rattle.tables.specs.Building.{Packed, putNode}
 use Rattle.gates.specs.declared.Normalization.{Normalization}
-use Rattle.lookup.specs.Lists.{listBase}
+use Rattle.same_gate.specs.Listed.{listBase}
 use Rattle.placing.specs.Lists.{trOf, countOf}
 use Rattle.lookup.specs.Chains.{Chained, joined}
 use Rattle.placing.specs.declared.Built.{Built}

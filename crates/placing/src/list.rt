@@ -9,7 +9,7 @@ ghost use Rattle.placing.specs.Lists.{trOf, lookedUp, gathered, normOf, 
 use canonical_gates::make_canonical;
 use gates::Normalization;
 use kinds::Kind;
-use lookup::LIST;
+use same_gate::LIST;
 use signal::Signal;
 use tables::layout::input_at;
 use tables::scratch::TR;

@@ -2,7 +2,7 @@
 use Prim.Native.Nat.{ℕ, _≤_, _<_, _-_}
 use mathlib.Core.Path.{_≡_}
 use Rattle.tables.specs.Layout.{cell}
-use Rattle.lookup.specs.Lists.{listBase}
+use Rattle.same_gate.specs.Listed.{listBase}
 use Rattle.lookup.specs.Chains.{stirred}
 use Rattle.laws.proofs.Turns.{turn-less, turn-low}
 use Rattle.lookup.proofs.Chains.{stir-none, stir-word, stir-next, stir-end}

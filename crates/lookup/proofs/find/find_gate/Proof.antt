@@ -2,8 +2,8 @@
 use Prim.Native.Nat.{ℕ}
 use mathlib.Core.Path.{refl}
 use native.Mathlib.Omega.{arith}
-use Rattle.lookup.specs.Lists.{listed}
-use Rattle.lookup.proofs.Searches.{searched-less}
+use Rattle.same_gate.specs.Listed.{listed}
+use Rattle.same_gate.proofs.Searches.{searched-less}
 use Rattle.lookup.proofs.Chains.{Seeking, seek-small, seek-start, seek-less, seek-next, seek-nothing, seek-found}
 use Rattle.lookup.proofs.find.find_gate.Statement.{statement}
 use Rattle.lookup.proofs.find.find_gate.Tie as tie

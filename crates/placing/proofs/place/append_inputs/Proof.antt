@@ -4,7 +4,7 @@ use mathlib.Core.Path.{_≡_, refl}
 use lib.ListN.{length}
 use Rattle.tables.specs.Layout.{cell}
 use Rattle.tables.specs.Building.{putInputs}
-use Rattle.lookup.specs.Lists.{listBase}
+use Rattle.same_gate.specs.Listed.{listBase}
 use Rattle.laws.proofs.Turns.{turn-less}
 use Rattle.placing.proofs.Fills.{append-none, append-word, append-place, append-room, append-count, append-next, append-end}
 use Rattle.placing.proofs.place.append_inputs.Statement.{statement}

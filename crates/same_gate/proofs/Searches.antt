@@ -20,7 +20,7 @@ use Rattle.model.specs.Gate.{Gate}
 use Rattle.model.specs.Network.{sameList, sameGate, findStep, findGate}
 use Rattle.shape.proofs.DedupPlace.{sameList-eq}
 use Rattle.tables.specs.Layout.{netSize, kindAt, firstAt, countAt, inputAt, lowAt, highAt, insAt, gateAt, cell}
-use Rattle.lookup.specs.Lists.{listBase, sameIns, listed, Searched}
+use Rattle.same_gate.specs.Listed.{listBase, sameIns, listed, Searched}
 
 -- ---- equal lists
 

@@ -3,10 +3,10 @@ use Prim.Native.Nat.{ℕ, _<_, _^_}
 use mathlib.Core.Path.{sym, ap, _∙_}
 use borrow.Author.Tests.{not-true, not-false}
 use Rattle.tables.specs.Layout.{lowAt}
-use Rattle.lookup.specs.Lists.{sameIns}
-use Rattle.lookup.proofs.Searches.{node-in, inputs-in, kind-differs, count-differs, inputs-differ, table-decides}
-use Rattle.lookup.proofs.find.same_gate.Statement.{statement}
-use Rattle.lookup.proofs.find.same_gate.Tie as tie
+use Rattle.same_gate.specs.Listed.{sameIns}
+use Rattle.same_gate.proofs.Searches.{node-in, inputs-in, kind-differs, count-differs, inputs-differ, table-decides}
+use Rattle.same_gate.proofs.same_gate.Statement.{statement}
+use Rattle.same_gate.proofs.same_gate.Tie as tie
 
 returns : tie.Need-returns
 returns c =

@@ -2,11 +2,11 @@
 use Prim.Native.Nat.{ℕ, _≤_, _-_, zero-le}
 use mathlib.Core.Path.{_≡_, sym, _∙_}
 use mathlib.Core.Bool.{true}
-use Rattle.lookup.specs.Lists.{sameIns}
+use Rattle.same_gate.specs.Listed.{sameIns}
 use Rattle.laws.proofs.Turns.{turn-less, turn-up}
-use Rattle.lookup.proofs.Searches.{same-none, same-more, same-differ, same-word, same-place, same-input, same-count, same-end}
-use Rattle.lookup.proofs.find.same_inputs.Statement.{statement}
-use Rattle.lookup.proofs.find.same_inputs.Tie as tie
+use Rattle.same_gate.proofs.Searches.{same-none, same-more, same-differ, same-word, same-place, same-input, same-count, same-end}
+use Rattle.same_gate.proofs.same_inputs.Statement.{statement}
+use Rattle.same_gate.proofs.same_inputs.Tie as tie
 
 abbrev Inv-loop : tie.InvT-loop
 Inv-loop to first n j₀ j = (j ≤ n) × (sameIns to first j ≡ true)
