@@ -20,7 +20,7 @@ use Rattle.tables.specs.Holding.{Holds}
 use Rattle.tables.specs.declared.counts.Counts.{Counts}
 use Rattle.load.specs.declared.Loaded.{Loaded}
 use Rattle.load.specs.declared.Loaded.the-variants.{Refused, Network}
-use Rattle.load.specs.Loading.{Loadable}
+use Rattle.load_body.specs.Loading.{Loadable}
 use Rattle.load.specs.Images.{countsOf, loadedAs, AcceptedFrame, Counted, Read}
 
 -- ---- load_frame: i, n and o are the counts that it has widened

@@ -1,5 +1,2 @@
-pub mod Copying
-pub mod Walks
-pub mod Loads
 pub mod Accepting
 pub mod Loading

@@ -6,13 +6,11 @@ ghost use Rattle.model.specs.Image.{refusalOf, sortedRefusalOf, netOf};
 ghost use Rattle.tables.specs.Layout.{netSize};
 ghost use Rattle.tables.specs.Holding.{Holds};
 ghost use Rattle.load.specs.Images.{countsOf, AcceptedFrame, Counted, Read};
-use body::load_body;
 use image::Checked;
 use image::Frame;
+use load_body::load_body;
 use tables::counts::Counts;
 use tables::layout::wide;
-
-pub mod body;
 
 // The number that refuses an image, or the counts of its network.
 pub enum Loaded {

@@ -4,11 +4,11 @@ use mathlib.Core.Path.{_≡_, refl}
 use lib.ListN.{length}
 use Rattle.model.specs.Image.{words}
 use Rattle.tables.specs.Building.{putOutputs}
-use Rattle.load.specs.Loading.{wordFrom}
+use Rattle.load_body.specs.Loading.{wordFrom}
 use Rattle.laws.proofs.Turns.{turn-less}
-use Rattle.load.proofs.Copying.{outputs-none, outputs-word, outputs-at, outputs-room, outputs-count, outputs-next, outputs-end}
-use Rattle.load.proofs.body.load_outputs.Statement.{statement}
-use Rattle.load.proofs.body.load_outputs.Tie as tie
+use Rattle.load_body.proofs.Copying.{outputs-none, outputs-word, outputs-at, outputs-room, outputs-count, outputs-next, outputs-end}
+use Rattle.load_body.proofs.load_outputs.Statement.{statement}
+use Rattle.load_body.proofs.load_outputs.Tie as tie
 
 abbrev Inv-loop : tie.InvT-loop
 Inv-loop body at to₀ outs j₀ to j = (j ≤ outs) × (length to ≡ length to₀) × (to ≡ putOutputs to₀ (wordFrom (words body) at) j)

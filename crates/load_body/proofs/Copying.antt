@@ -11,7 +11,7 @@ use mir.Syntax.{w64}
 use Rattle.model.specs.Image.{words}
 use Rattle.tables.specs.Layout.{netSize, putInput, putOutput}
 use Rattle.tables.specs.Building.{putInputs, putOutputs}
-use Rattle.load.specs.Loading.{wordFrom, Copies, Outputs}
+use Rattle.load_body.specs.Loading.{wordFrom, Copies, Outputs}
 
 -- ---- the inputs
 

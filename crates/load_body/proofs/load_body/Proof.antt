@@ -1,10 +1,10 @@
 -- `load_body`: each need by its law.
 use Prim.Native.Nat.{_≤_, _-_}
-use Rattle.load.specs.Loading.{Loading}
-use Rattle.load.proofs.Loads.{loads}
+use Rattle.load_body.specs.Loading.{Loading}
+use Rattle.load_body.proofs.Loads.{loads}
 use borrow.Author.Needs.{needs}
-use Rattle.load.proofs.body.load_body.Statement.{statement}
-use Rattle.load.proofs.body.load_body.Tie as tie
+use Rattle.load_body.proofs.load_body.Statement.{statement}
+use Rattle.load_body.proofs.load_body.Tie as tie
 
 pub load-body-spec : {M : Type 1} → statement M
 load-body-spec =

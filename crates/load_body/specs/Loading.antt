@@ -9,7 +9,7 @@ use Rattle.model.specs.Image.{words, codeAt, countAt, extra, sizeAt, gatesFrom,
 use Rattle.tables.specs.Layout.{netSize, nodesOf, putTable}
 use Rattle.tables.specs.Building.{putNode, Packed}
 use Rattle.tables.specs.declared.counts.Counts.{Counts}
-use Rattle.load.specs.declared.body.Place.{Place}
+use Rattle.load_body.specs.declared.Place.{Place}
 
 -- the words from `at` on
 unfoldable pub wordFrom : List ℕ → ℕ → ℕ → ℕ

@@ -4,7 +4,7 @@ ghost use Prim.Native.Nat.{ℕ, _+_};
 ghost use Rattle.model.specs.Image.{words, netIn};
 ghost use Rattle.tables.specs.Building.{putInputs, putOutputs};
 ghost use Rattle.tables.specs.Holding.{Holds};
-ghost use Rattle.load.specs.Loading.{wordFrom, Copies, Headed, Tabled, Fits, Placed, Records, Nodes, Outputs, Loadable};
+ghost use Rattle.load_body.specs.Loading.{wordFrom, Copies, Headed, Tabled, Fits, Placed, Records, Nodes, Outputs, Loadable};
 use tables::counts::Counts;
 use tables::layout::put_gate;
 use tables::layout::put_input;

@@ -4,11 +4,11 @@ use mathlib.Core.Path.{_≡_, refl}
 use lib.ListN.{length}
 use Rattle.model.specs.Image.{words}
 use Rattle.tables.specs.Building.{putInputs}
-use Rattle.load.specs.Loading.{wordFrom}
+use Rattle.load_body.specs.Loading.{wordFrom}
 use Rattle.laws.proofs.Turns.{turn-less}
-use Rattle.load.proofs.Copying.{inputs-none, inputs-word, inputs-at, inputs-place, inputs-room, inputs-count, inputs-next, inputs-end}
-use Rattle.load.proofs.body.load_inputs.Statement.{statement}
-use Rattle.load.proofs.body.load_inputs.Tie as tie
+use Rattle.load_body.proofs.Copying.{inputs-none, inputs-word, inputs-at, inputs-place, inputs-room, inputs-count, inputs-next, inputs-end}
+use Rattle.load_body.proofs.load_inputs.Statement.{statement}
+use Rattle.load_body.proofs.load_inputs.Tie as tie
 
 abbrev Inv-loop : tie.InvT-loop
 Inv-loop body at to₀ first n j₀ to j = (j ≤ n) × (length to ≡ length to₀) × (to ≡ putInputs to₀ first (wordFrom (words body) at) j)

@@ -2,11 +2,11 @@
 use Prim.Native.Nat.{_≤_, _-_, zero-le}
 use mathlib.Core.Path.{_≡_, refl, _∙_}
 use lib.ListN.{length}
-use Rattle.load.specs.Loading.{Loading}
+use Rattle.load_body.specs.Loading.{Loading}
 use Rattle.laws.proofs.Turns.{turn-less, turn-up}
-use Rattle.load.proofs.Loads.{loading-none, loading-fits, loading-count, loading-next, loading-end}
-use Rattle.load.proofs.body.load_nodes.Statement.{statement}
-use Rattle.load.proofs.body.load_nodes.Tie as tie
+use Rattle.load_body.proofs.Loads.{loading-none, loading-fits, loading-count, loading-next, loading-end}
+use Rattle.load_body.proofs.load_nodes.Statement.{statement}
+use Rattle.load_body.proofs.load_nodes.Tie as tie
 
 abbrev Inv-loop : tie.InvT-loop
 Inv-loop body to₀ nodes p₀ v₀ to p v = (v ≤ nodes) × (length to ≡ length to₀) × Loading body to v p

@@ -25,9 +25,9 @@ use Rattle.tables.specs.declared.counts.Counts.{Counts}
 use Rattle.shape.proofs.Written.{gate-eq}
 use Rattle.tables.proofs.Building.{nodesOf-none, packed-none, nodesOf-putNode, packed-putNode, outputsOf-putOutputs, nodesOf-putOutputs, packed-putOutputs}
 use Rattle.tables.proofs.Holding.{holds}
-use Rattle.load.specs.declared.body.Place.{Place}
-use Rattle.load.specs.Loading.{wordFrom, lowIn, highIn, putRecord, Copies, Headed, Tabled, Fits, Placed, Records, Loading, Nodes, Outputs, Loadable}
-use Rattle.load.proofs.Walks.{gates-next, record-inside, record-room, fanin-loaded}
+use Rattle.load_body.specs.declared.Place.{Place}
+use Rattle.load_body.specs.Loading.{wordFrom, lowIn, highIn, putRecord, Copies, Headed, Tabled, Fits, Placed, Records, Loading, Nodes, Outputs, Loadable}
+use Rattle.load_body.proofs.Walks.{gates-next, record-inside, record-room, fanin-loaded}
 
 -- the words of a part, one by one
 pub tab-words : (ws : List ℕ) (at n : ℕ) → at + n ≤ length ws → tab (wordFrom ws at) n ≡ take n (drop at ws)

@@ -1,9 +1,9 @@
 -- `load_gate`: each need by its law.
 use mathlib.Core.Path.{_∙_}
 use borrow.Author.Needs.{needs}
-use Rattle.load.proofs.Loads.{gate-inside, gate-copies, gate-headed, gate-one, gate-behind, gate-ends, gate-free, gate-first, gate-placed}
-use Rattle.load.proofs.body.load_gate.Statement.{statement}
-use Rattle.load.proofs.body.load_gate.Tie as tie
+use Rattle.load_body.proofs.Loads.{gate-inside, gate-copies, gate-headed, gate-one, gate-behind, gate-ends, gate-free, gate-first, gate-placed}
+use Rattle.load_body.proofs.load_gate.Statement.{statement}
+use Rattle.load_body.proofs.load_gate.Tie as tie
 
 nth-requires : tie.Need-nth-requires
 nth-requires c κs = gate-inside _ _ _ _ (c .before .before .pre)

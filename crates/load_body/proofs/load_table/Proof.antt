@@ -1,8 +1,8 @@
 -- `load_table`: each need by its law.
 use borrow.Author.Needs.{needs}
-use Rattle.load.proofs.Loads.{table-none, low-inside, high-inside, table-one, table-low, table-two, table-high, table-some}
-use Rattle.load.proofs.body.load_table.Statement.{statement}
-use Rattle.load.proofs.body.load_table.Tie as tie
+use Rattle.load_body.proofs.Loads.{table-none, low-inside, high-inside, table-one, table-low, table-two, table-high, table-some}
+use Rattle.load_body.proofs.load_table.Statement.{statement}
+use Rattle.load_body.proofs.load_table.Tie as tie
 
 same-length : tie.Need-same-length
 same-length c = c .before .before .put-table .kept .0
