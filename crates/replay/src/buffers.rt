@@ -1,5 +1,5 @@
 // What is lent to an entry: filled with a pattern before, and compared afterwards with what is recorded and the pattern behind it.
-ghost use Prim.Native.Nat.{_≤_};
+ghost use Prim.Native.Nat.{_≤_, _<_};
 ghost use lib.ListN.{length};
 use words::nth;
 
@@ -8,12 +8,11 @@ pub const BYTE: u8 = 0xA5;
 
 pub const WORD: u32 = 0xA5A5_A5A5;
 
-// Puts src to the front and answers its length; 0 where it has no room.
-pub fn put(src: &[u8], dst: &mut [u8]) -> usize {
-    if dst.len() < src.len() {
-        return 0;
+// Puts src to the front; nothing where it has no room.
+pub fn put(src: &[u8], dst: &mut [u8]) {
+    if src.len() <= dst.len() {
+        bytes::copy(src, dst);
     }
-    bytes::copy(src, dst)
 }
 
 // The n bytes from `from` on; none where buf ends before.
@@ -28,65 +27,56 @@ pub fn slice(buf: &[u8], from: usize, n: usize) -> &[u8] {
     &buf[from..to]
 }
 
-// Whether the pattern stands from `from` on.
-fn is_untouched(buf: &[u8], from: usize) -> bool {
-    let mut i = from;
-    while i < buf.len() {
-        if buf[i] != BYTE {
-            return false;
-        }
-        i += 1;
-    }
-    true
-}
-
-// Whether each word from `from` up to `to` is v.
-fn all_words(buf: &[u32], from: usize, to: usize, v: u32) -> bool
-    requires { ⌜ to ≤ length (now buf) ⌝ }
-{
-    let mut i = from;
-    while i < to {
-        if buf[i] != v {
-            return false;
-        }
-        i += 1;
-    }
-    true
-}
-
-// Whether buf begins with the words whose bytes want has.
-fn same_words(buf: &[u32], want: &[u8]) -> bool {
-    let mut i: usize = 0;
-    while i < want.len() / 4 {
-        if buf.len() <= i {
-            return false;
-        }
-        if buf[i] != nth(want, i) {
-            return false;
-        }
-        i += 1;
-    }
-    true
+// Byte i of what is expected, the pattern behind it.
+fn byte_or_pattern(want: &[u8], i: usize) -> u8 {
+    if i < want.len() { want[i] } else { BYTE }
 }
 
 // Whether buf begins with want and has the pattern behind it.
 pub fn holds(buf: &[u8], want: &[u8]) -> bool {
-    check::same(slice(buf, 0, want.len()), want) & is_untouched(buf, want.len())
-}
-
-pub fn holds_words(buf: &[u32], want: &[u8]) -> bool {
-    same_words(buf, want) & all_words(buf, want.len() / 4, buf.len(), WORD)
-}
-
-// Whether an area of which n words were lent is as an entry leaves it that answers this number: untouched for 1, else zero; and the
-// pattern behind it.
-pub fn is_left(area: &[u32], n: usize, number: u32) -> bool {
-    if area.len() < n {
-        return false;
+    let mut i: usize = 0;
+    while i < buf.len() {
+        if buf[i] != byte_or_pattern(want, i) {
+            return false;
+        }
+        i += 1;
     }
-    all_words(area, 0, n, left_word(number)) & all_words(area, n, area.len(), WORD)
+    want.len() <= buf.len()
 }
 
-fn left_word(number: u32) -> u32 {
-    if number == 1 { WORD } else { 0 }
+fn word_or_pattern(want: &[u8], i: usize) -> u32 {
+    if i < want.len() / 4 {
+        return nth(want, i);
+    }
+    WORD
+}
+
+// The same of words, whose bytes want has.
+pub fn holds_words(buf: &[u32], want: &[u8]) -> bool {
+    let mut i: usize = 0;
+    while i < buf.len() {
+        if buf[i] != word_or_pattern(want, i) {
+            return false;
+        }
+        i += 1;
+    }
+    want.len() / 4 <= buf.len()
+}
+
+// What an entry that answers this number leaves in word i of an area of which n were lent: as it was for 1, else zero; and the pattern
+// behind.
+fn left_word(i: usize, n: usize, number: u32) -> u32 {
+    if (i < n) & (number != 1) { 0 } else { WORD }
+}
+
+// Whether an area is as the entry leaves it.
+pub fn is_left(area: &[u32], n: usize, number: u32) -> bool {
+    let mut i: usize = 0;
+    while i < area.len() {
+        if area[i] != left_word(i, n, number) {
+            return false;
+        }
+        i += 1;
+    }
+    true
 }

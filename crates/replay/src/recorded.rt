@@ -1,5 +1,6 @@
 // A record of docs/RECORDED.md as its bytes: the 16 words of its head and the parts of its data behind them.
-ghost use Prim.Native.Nat.{_<_, _≤_};
+ghost use Prim.Native.Nat.{_<_, _≤_, _-_};
+ghost use lib.ListN.{length};
 use crate::buffers::slice;
 use words::nth;
 
@@ -43,7 +44,7 @@ pub const OUTPUT: usize = 5;
 
 pub const STATE_AFTER: usize = 6;
 
-pub const PARTS: usize = 7;
+const PARTS: usize = 7;
 
 // Word k, 0 past the end.
 pub fn word(record: &[u8], k: usize) -> u32 {
@@ -89,7 +90,7 @@ fn padded(n: usize) -> usize
 }
 
 // Where a part begins, in bytes from the record's start; of PARTS the record's end.
-pub fn start(record: &[u8], part: usize) -> usize
+fn start(record: &[u8], part: usize) -> usize
     requires { ⌜ part ≤ 7 ⌝ }
 {
     let mut at = HEAD;
@@ -108,11 +109,42 @@ pub fn part(record: &[u8], part: usize) -> &[u8]
     slice(record, start(record, part), part_len(record, part))
 }
 
+// What is lent at most.
+fn is_in_bounds(record: &[u8]) -> bool {
+    (size(record, OUT) <= 16500)
+        & (size(record, MAP) <= 512)
+        & (size(record, OUTPUTS) <= 64)
+        & (size(record, STATE) <= 512)
+        & (size(record, FIRST) <= 16384)
+        & (size(record, SECOND) <= 16384)
+}
+
+// The bytes of the record that a file's rest begins with, 0 where it is not whole or out of bounds.
+fn first_size(rest: &[u8]) -> usize
+    ensures { λ r. ⌜ r ≤ length (now (rest .entry)) ⌝ }
+{
+    let size = start(rest, PARTS);
+    if rest.len() < size {
+        return 0;
+    }
+    if is_in_bounds(rest) { size } else { 0 }
+}
+
+// The same from `at` on.
+pub fn size_at(file: &[u8], at: usize) -> usize
+    ensures { λ r. ⌜ r ≤ length (now (file .entry)) - at ⌝ }
+{
+    if file.len() <= at {
+        return 0;
+    }
+    first_size(&file[at..])
+}
+
 // The part that has the state afterwards: all of it where evaluation accepts, else as it was.
 pub fn state_part(record: &[u8]) -> usize
     ensures { λ r. ⌜ r ≤ 7 ⌝ }
 {
-    if size(record, length_word(STATE_AFTER)) == 0 {
+    if size(record, 15) == 0 {
         STATE_BEFORE
     } else {
         STATE_AFTER

@@ -6,38 +6,21 @@ use crate::buffers::holds;
 use crate::buffers::holds_words;
 use crate::buffers::is_left;
 use crate::buffers::put;
-use crate::entries::Got;
+use crate::buffers::slice;
+use crate::entries::EVALUATE;
+use crate::entries::part_start;
 use crate::entries::run;
-use crate::file;
 use crate::recorded;
 use crate::recorded::part;
 use crate::recorded::size;
 use crate::recorded::state_part;
 use crate::recorded::word;
+use answers::Answer;
+use answers::length;
+use answers::number;
 use libc::STDERR_FILENO;
 
-// What was lent at most. Each buffer has more elements than that, to be found untouched.
-const OUT_MAX: usize = 16500;
-
-const MAP_MAX: usize = 512;
-
-const OUTPUTS_MAX: usize = 64;
-
-const STATE_MAX: usize = 512;
-
-const AREA_MAX: usize = 16384;
-
-// Whether the buffers have room for all that was lent.
-fn is_in_bounds(record: &[u8]) -> bool {
-    (size(record, recorded::OUT) <= OUT_MAX)
-        & (size(record, recorded::MAP) <= MAP_MAX)
-        & (size(record, recorded::OUTPUTS) <= OUTPUTS_MAX)
-        & (size(record, recorded::STATE) <= STATE_MAX)
-        & (size(record, recorded::FIRST) <= AREA_MAX)
-        & (size(record, recorded::SECOND) <= AREA_MAX)
-}
-
-// How much was lent of a buffer of len elements: word k, which is no more than that once `is_in_bounds` was asked.
+// How much was lent of a buffer of len elements: word k, which is no more than that in a record within bounds.
 fn lent(record: &[u8], k: usize, len: usize) -> usize
     ensures { λ r. ⌜ r ≤ len ⌝ }
 {
@@ -45,20 +28,37 @@ fn lent(record: &[u8], k: usize, len: usize) -> usize
     if n < len { n } else { len }
 }
 
+// The word that says how much was lent of the first buffer, and the part that it has then.
+fn out_word(entry: u32) -> usize {
+    if entry == EVALUATE {
+        recorded::OUTPUTS
+    } else {
+        recorded::OUT
+    }
+}
+
+fn out_part(entry: u32) -> usize
+    ensures { λ r. ⌜ r ≤ 7 ⌝ }
+{
+    if entry == EVALUATE {
+        recorded::OUTPUT
+    } else {
+        recorded::RESULT
+    }
+}
+
 // Runs the entry on the front of each buffer, as much of it as was lent.
-fn lend(
+pub fn lend(
     entry: u32,
     record: &[u8],
     out: &mut [u8],
     map: &mut [u32],
-    outputs: &mut [u8],
     state: &mut [u8],
     a: &mut [u32],
     b: &mut [u32],
-) -> Got {
-    let out_len = lent(record, recorded::OUT, out.len());
+) -> Answer {
+    let out_len = lent(record, out_word(entry), out.len());
     let map_len = lent(record, recorded::MAP, map.len());
-    let outputs_len = lent(record, recorded::OUTPUTS, outputs.len());
     let state_len = lent(record, recorded::STATE, state.len());
     let a_len = lent(record, recorded::FIRST, a.len());
     let b_len = lent(record, recorded::SECOND, b.len());
@@ -67,96 +67,96 @@ fn lend(
         record,
         &mut out[..out_len],
         &mut map[..map_len],
-        &mut outputs[..outputs_len],
         &mut state[..state_len],
         &mut a[..a_len],
         &mut b[..b_len],
     )
 }
 
+// What is compared, as `expect` names it.
+const NUMBER: usize = 0;
+
+const LENGTH: usize = 1;
+
+const START: usize = 2;
+
+const OUT: usize = 3;
+
+const MAPPING: usize = 4;
+
+const STATE: usize = 5;
+
+const FIRST: usize = 6;
+
+const SECOND: usize = 7;
+
 // Passes a comparison on, and names on standard error what does not hold.
-fn expect(what: &[u8], is: bool) -> bool {
+fn expect(what: usize, is: bool) -> bool {
     if !is {
-        io::write_all(STDERR_FILENO, what);
+        let names = b"number  length  start   result  mapping state   area 1  area 2  ";
+        io::write_all(STDERR_FILENO, slice(names, 8 * (what % 8), 8));
     }
     is
 }
 
-fn is_answer(record: &[u8], got: Got) -> bool {
-    expect(b"number ", got.number == word(record, recorded::NUMBER))
-        & expect(b"length ", got.length == size(record, recorded::LENGTH))
-        & expect(b"start ", got.start == size(record, recorded::START))
+fn is_answer(entry: u32, record: &[u8], r: Answer) -> bool {
+    expect(NUMBER, number(r) == word(record, recorded::NUMBER))
+        & expect(LENGTH, length(r) == size(record, recorded::LENGTH))
+        & expect(
+            START,
+            part_start(entry, record) == size(record, recorded::START),
+        )
 }
 
 // Whether buf has a part of the record, and the pattern behind it.
-fn has(what: &[u8], record: &[u8], k: usize, buf: &[u8]) -> bool
+fn has(what: usize, record: &[u8], k: usize, buf: &[u8]) -> bool
     requires { ⌜ k ≤ 7 ⌝ }
 {
     expect(what, holds(buf, part(record, k)))
 }
 
 fn has_mapping(record: &[u8], map: &[u32]) -> bool {
-    expect(
-        b"mapping ",
-        holds_words(map, part(record, recorded::MAPPING)),
-    )
-}
-
-fn are_results(
-    record: &[u8],
-    out: &[u8; 16640],
-    map: &[u32; 576],
-    outputs: &[u8; 128],
-    state: &[u8; 640],
-) -> bool {
-    has(b"result ", record, recorded::RESULT, out)
-        & has_mapping(record, map)
-        & has(b"outputs ", record, recorded::OUTPUT, outputs)
-        & has(b"state ", record, state_part(record), state)
+    expect(MAPPING, holds_words(map, part(record, recorded::MAPPING)))
 }
 
 // Whether an area, lent as word k of the record says, is as the entry leaves it.
-fn has_area(what: &[u8], record: &[u8], k: usize, area: &[u32]) -> bool {
+fn has_area(what: usize, record: &[u8], k: usize, area: &[u32]) -> bool {
     expect(
         what,
         is_left(area, size(record, k), word(record, recorded::NUMBER)),
     )
 }
 
-fn are_areas(record: &[u8], a: &[u32; 16448], b: &[u32; 16448]) -> bool {
-    has_area(b"first area ", record, recorded::FIRST, a)
-        & has_area(b"second area ", record, recorded::SECOND, b)
-}
-
-// Whether the entry does what is recorded.
-fn replay(entry: u32, record: &[u8]) -> bool {
+// Whether the entry does what is recorded. Each buffer has more elements than are lent at most, to be found untouched.
+fn is_same(entry: u32, record: &[u8]) -> bool {
     let mut out = [BYTE; 16640];
     let mut map = [WORD; 576];
-    let mut outputs = [BYTE; 128];
     let mut state = [BYTE; 640];
     let mut a = [WORD; 16448];
     let mut b = [WORD; 16448];
     put(part(record, recorded::STATE_BEFORE), &mut state);
-    let got = lend(
+    let r = lend(
         entry,
         record,
         &mut out,
         &mut map,
-        &mut outputs,
         &mut state,
         &mut a,
         &mut b,
     );
-    is_answer(record, got)
-        & are_results(record, &out, &map, &outputs, &state)
-        & are_areas(record, &a, &b)
+    is_answer(entry, record, r)
+        & has(OUT, record, out_part(entry), &out)
+        & has_mapping(record, &map)
+        & has(STATE, record, state_part(record), &state)
+        & has_area(FIRST, record, recorded::FIRST, &a)
+        & has_area(SECOND, record, recorded::SECOND, &b)
 }
 
-// Ends the line of a record that differs; answers how many differ.
-fn count_differing(entry: u32, k: u32, is_same: bool) -> u32
+// Replays a record, number k of its file; answers how many differ, 0 or 1.
+pub fn replay(record: &[u8], entry: u32, k: u32) -> u32
     ensures { λ r. ⌜ r ≤ 1 ⌝ }
 {
-    if is_same {
+    if is_same(entry, record) {
         return 0;
     }
     io::write_all(STDERR_FILENO, b"differ in record ");
@@ -165,18 +165,4 @@ fn count_differing(entry: u32, k: u32, is_same: bool) -> u32
     io::print_decimal(STDERR_FILENO, entry as u64);
     io::write_all(STDERR_FILENO, b"\n");
     1
-}
-
-// Reads and replays the next record, number k: answers how many differ, 0 or 1; or 2 where the file is damaged.
-pub fn next(fd: i32, entry: u32, k: u32, record: &mut [u8]) -> u32
-    ensures { λ r. ⌜ r ≤ 2 ⌝ }
-{
-    if !file::next(fd, record) {
-        return 2;
-    }
-    if !is_in_bounds(record) {
-        return 2;
-    }
-    let is_same = replay(entry, record);
-    count_differing(entry, k, is_same)
 }

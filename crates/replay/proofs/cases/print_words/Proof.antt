@@ -1,15 +1,15 @@
 -- `print_words`: what its loop keeps, and each need by its law.
-use Prim.Native.Nat.{_-_}
-use lib.ListN.{length}
+use Prim.Native.Nat.{_-_, _/_}
 use borrow.Author.Needs.{needs}
-use Rattle.hand_cases.proofs.print_words.Statement.{statement}
-use Rattle.hand_cases.proofs.print_words.Tie as tie
+use lib.ListN.{length}
+use Rattle.replay.proofs.cases.print_words.Statement.{statement}
+use Rattle.replay.proofs.cases.print_words.Tie as tie
 
 abbrev Inv-loop : tie.InvT-loop
 Inv-loop image i₀ t3 i = Unit {0}
 
 abbrev μ-loop : tie.MeasureT-loop
-μ-loop image i₀ t3 i = length image - i
+μ-loop image i₀ t3 i = length image / 4 - i
 
 pub print-words-spec : {M : Type 1} → statement M
 print-words-spec =
@@ -19,7 +19,6 @@ print-words-spec =
     μ-loop
     (λ c. search needs)
     (λ c. search needs)
-    (λ c κs. search needs)
     (λ c κs. search needs)
     (λ c. search needs)
     (λ c κs. search needs)

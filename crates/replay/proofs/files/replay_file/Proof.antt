@@ -1,16 +1,14 @@
 -- `replay_file`: what its loop keeps, and each need by its law.
-use mathlib.Core.Path.{_≡_}
 use Prim.Native.Nat.{_-_, _≤_}
-use lib.ListN.{length}
 use borrow.Author.Needs.{needs}
-use Rattle.replay.proofs.replay_file.Statement.{statement}
-use Rattle.replay.proofs.replay_file.Tie as tie
+use Rattle.replay.proofs.files.replay_file.Statement.{statement}
+use Rattle.replay.proofs.files.replay_file.Tie as tie
 
 abbrev Inv-loop : tie.InvT-loop
-Inv-loop fd entry bytes₀ inputs k₀ differ₀ bytes k differ = (k ≤ inputs) × (differ ≤ k) × (length bytes ≡ length bytes₀)
+Inv-loop file entry inputs at₀ k₀ differ₀ t8 t9 at k differ = (k ≤ inputs) × (differ ≤ k)
 
 abbrev μ-loop : tie.MeasureT-loop
-μ-loop fd entry bytes₀ inputs k₀ differ₀ bytes k differ = inputs - k
+μ-loop file entry inputs at₀ k₀ differ₀ t8 t9 at k differ = inputs - k
 
 pub replay-file-spec : {M : Type 1} → statement M
 replay-file-spec =
@@ -22,6 +20,11 @@ replay-file-spec =
     (λ c. search needs)
     (λ c κs. search needs)
     (λ c. search needs)
+    (λ c κs. search needs)
+    (λ c. search needs)
+    (λ c κs. search needs)
+    (λ c κs. search needs)
+    (λ c. search needs)
     (λ c. search needs)
     (λ c. search needs)
     (λ c. search needs)
@@ -29,6 +32,5 @@ replay-file-spec =
     (λ c. search needs)
     (λ c κs. search needs)
     (λ c. search needs)
-    (λ c. search needs)
-    (λ c. search needs)
+    (λ c κs. search needs)
     (λ c. search needs))
