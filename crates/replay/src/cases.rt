@@ -6,9 +6,11 @@ ghost use lib.ListN.{length};
 use crate::buffers::slice;
 use crate::entries::CODES;
 use crate::entries::EVALUATE;
-use crate::entries::name_len;
+use crate::entries::name;
 use crate::recorded::HEAD;
 use crate::replaying::lend;
+use crate::telling::print;
+use crate::telling::print_number;
 use answers::Answer;
 use bytes::scan::find;
 use libc::STDOUT_FILENO;
@@ -18,19 +20,10 @@ use words::put_word;
 // The flattening limit of document 01's example.
 const LIMIT: u32 = 64;
 
-fn print(text: &[u8]) {
-    io::write_all(STDOUT_FILENO, text);
-}
-
-fn print_number(text: &[u8], n: u64) {
-    print(text);
-    io::print_decimal(STDOUT_FILENO, n);
-}
-
 fn print_words(image: &[u8]) {
     let mut i: usize = 0;
     while i < image.len() / 4 {
-        print_number(b" ", nth(image, i) as u64);
+        print_number(STDOUT_FILENO, b" ", nth(image, i) as u64);
         i += 1;
     }
 }
@@ -40,7 +33,7 @@ fn print_image(image: &[u8]) {
     if image.len() <= 128 {
         return print_words(image);
     }
-    print_number(b" accepted, bytes ", image.len() as u64);
+    print_number(STDOUT_FILENO, b" accepted, bytes ", image.len() as u64);
 }
 
 // The bytes of out that are printed: a cycle's one output is its first word.
@@ -50,7 +43,7 @@ fn printed_len(entry: u32, len: usize) -> usize {
 
 fn print_answer(entry: u32, r: Answer, out: &[u8]) {
     match r {
-        Answer::Refused(n) => print_number(b" refused ", n as u64),
+        Answer::Refused(n) => print_number(STDOUT_FILENO, b" refused ", n as u64),
         Answer::Accepted(len) => print_image(slice(out, 0, printed_len(entry, len))),
     }
 }
@@ -82,7 +75,7 @@ fn show(entry: u32, record: &[u8]) {
         print_answer(entry, r, &out);
         k += 1;
     }
-    print(b"\n");
+    print(STDOUT_FILENO, b"\n");
 }
 
 // A number with one digit more; as it is where c is none.
@@ -164,8 +157,8 @@ fn behind_colon(line: &[u8], n: usize) -> usize
 fn entry_of(names: &[u8], text: &[u8]) -> u32 {
     let mut entry: u32 = 0;
     while entry < CODES {
-        let n = name_len(entry);
-        if check::same(slice(names, 16 * entry as usize, n), slice(text, 1, n)) {
+        let name = name(names, entry, 0);
+        if check::same(name, slice(text, 1, name.len())) {
             return entry;
         }
         entry += 1;
@@ -179,7 +172,7 @@ fn show_line(names: &[u8], line: &[u8]) {
         return;
     }
     let entry = behind_colon(line, image - 1);
-    print(slice(line, 0, image));
+    print(STDOUT_FILENO, slice(line, 0, image));
     show_image(entry_of(names, &line[entry..]), &line[image..]);
 }
 

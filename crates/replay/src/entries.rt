@@ -43,7 +43,7 @@ const RECORD: u32 = 9;
 pub const CODES: u32 = 10;
 
 // The length of an entry's name; its file is called so and `.bin`.
-pub fn name_len(entry: u32) -> usize
+fn name_len(entry: u32) -> usize
     ensures { λ r. ⌜ r ≤ 9 ⌝ }
 {
     match entry {
@@ -58,6 +58,13 @@ pub fn name_len(entry: u32) -> usize
         EVALUATE => 8,
         _ => 9,
     }
+}
+
+// An entry's name and `more` bytes behind it: 4 for its file's.
+pub fn name(names: &[u8], entry: u32, more: usize) -> &[u8]
+    requires { ⌜ more ≤ 4 ⌝ }
+{
+    slice(names, 16 * entry as usize, name_len(entry) + more)
 }
 
 // Reads, or runs an entry of network.rs.

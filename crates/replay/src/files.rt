@@ -3,10 +3,12 @@ ghost use Prim.Native.Nat.{_≤_};
 ghost use lib.ListN.{length};
 use crate::buffers::slice;
 use crate::entries::CODES;
-use crate::entries::name_len;
+use crate::entries::name;
 use crate::recorded::size_at;
 use crate::recorded::word;
 use crate::replaying::replay;
+use crate::telling::print;
+use crate::telling::print_number;
 use libc::STDOUT_FILENO;
 
 // The bytes `LLRA`.
@@ -22,15 +24,14 @@ fn count(file: &[u8], entry: u32) -> u32 {
     0
 }
 
-fn print(text: &[u8]) {
-    io::write_all(STDOUT_FILENO, text);
-}
-
-fn print_counts(inputs: u32, differ: u32) {
-    io::print_decimal(STDOUT_FILENO, inputs as u64);
-    print(b" inputs, ");
-    io::print_decimal(STDOUT_FILENO, differ as u64);
-    print(b" differ\n");
+// The rest of a file's line.
+fn print_counts(inputs: u32, differ: u32, is_whole: bool) {
+    if !is_whole {
+        return print(STDOUT_FILENO, b": damaged\n");
+    }
+    print_number(STDOUT_FILENO, b": ", inputs as u64);
+    print_number(STDOUT_FILENO, b" inputs, ", differ as u64);
+    print(STDOUT_FILENO, b" differ\n");
 }
 
 // Replays the records of a file and prints how many there are, and how many differ.
@@ -42,16 +43,13 @@ fn replay_file(file: &[u8], entry: u32) {
     while k < inputs {
         let size = size_at(file, at);
         if size == 0 {
-            return print(b"damaged\n");
+            break;
         }
         differ += replay(slice(file, at, size), entry, k);
         at += size;
         k += 1;
     }
-    if at != file.len() {
-        return print(b"damaged\n");
-    }
-    print_counts(inputs, differ);
+    print_counts(inputs, differ, (k == inputs) & (at == file.len()));
 }
 
 // Reads a file; answers how many bytes it has, none where it is not there.
@@ -66,11 +64,8 @@ fn read(path: &[u8], file: &mut [u8]) -> usize {
 pub fn replay_all(names: &[u8], file: &mut [u8]) {
     let mut entry: u32 = 0;
     while entry < CODES {
-        let at = 16 * entry as usize;
-        let name = name_len(entry);
-        print(slice(names, at, name));
-        print(b": ");
-        let n = read(slice(names, at, name + 4), file);
+        print(STDOUT_FILENO, name(names, entry, 0));
+        let n = read(name(names, entry, 4), file);
         replay_file(slice(file, 0, n), entry);
         entry += 1;
     }

@@ -10,6 +10,7 @@ mod entries;
 mod files;
 mod recorded;
 mod replaying;
+mod telling;
 
 // A megabyte, more than the longest file has.
 fn room() -> [u8; 1048576]

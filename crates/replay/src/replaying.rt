@@ -15,6 +15,8 @@ use crate::recorded::part;
 use crate::recorded::size;
 use crate::recorded::state_part;
 use crate::recorded::word;
+use crate::telling::print;
+use crate::telling::print_number;
 use answers::Answer;
 use answers::length;
 use answers::number;
@@ -94,7 +96,7 @@ const SECOND: usize = 7;
 fn expect(what: usize, is: bool) -> bool {
     if !is {
         let names = b"number  length  start   result  mapping state   area 1  area 2  ";
-        io::write_all(STDERR_FILENO, slice(names, 8 * (what % 8), 8));
+        print(STDERR_FILENO, slice(names, 8 * (what % 8), 8));
     }
     is
 }
@@ -159,10 +161,8 @@ pub fn replay(record: &[u8], entry: u32, k: u32) -> u32
     if is_same(entry, record) {
         return 0;
     }
-    io::write_all(STDERR_FILENO, b"differ in record ");
-    io::print_decimal(STDERR_FILENO, k as u64);
-    io::write_all(STDERR_FILENO, b" of entry ");
-    io::print_decimal(STDERR_FILENO, entry as u64);
-    io::write_all(STDERR_FILENO, b"\n");
+    print_number(STDERR_FILENO, b"differ in record ", k as u64);
+    print_number(STDERR_FILENO, b" of entry ", entry as u64);
+    print(STDERR_FILENO, b"\n");
     1
 }

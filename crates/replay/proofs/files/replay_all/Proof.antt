@@ -7,10 +7,10 @@ use Rattle.replay.proofs.files.replay_all.Statement.{statement}
 use Rattle.replay.proofs.files.replay_all.Tie as tie
 
 abbrev Inv-loop : tie.InvT-loop
-Inv-loop names file₀ entry₀ t7 file entry = length file ≡ length file₀
+Inv-loop names file₀ entry₀ file entry = length file ≡ length file₀
 
 abbrev μ-loop : tie.MeasureT-loop
-μ-loop names file₀ entry₀ t7 file entry = 10 - entry
+μ-loop names file₀ entry₀ file entry = 10 - entry
 
 pub replay-all-spec : {M : Type 1} → statement M
 replay-all-spec =
@@ -19,14 +19,8 @@ replay-all-spec =
     Inv-loop
     μ-loop
     (λ c. search needs)
-    (λ c. search needs)
-    (λ c. search needs)
     (λ c κs. search needs)
     (λ c κs. search needs)
-    (λ c κs. search needs)
-    (λ c. search needs)
-    (λ c κs. search needs)
-    (λ c. search needs)
     (λ c κs. search needs)
     (λ c κs. search needs)
     (λ c κs. search needs)

@@ -5,10 +5,10 @@ use Rattle.replay.proofs.files.replay_file.Statement.{statement}
 use Rattle.replay.proofs.files.replay_file.Tie as tie
 
 abbrev Inv-loop : tie.InvT-loop
-Inv-loop file entry inputs at₀ k₀ differ₀ t8 t9 at k differ = (k ≤ inputs) × (differ ≤ k)
+Inv-loop file entry inputs at₀ k₀ differ₀ at k differ = (k ≤ inputs) × (differ ≤ k)
 
 abbrev μ-loop : tie.MeasureT-loop
-μ-loop file entry inputs at₀ k₀ differ₀ t8 t9 at k differ = inputs - k
+μ-loop file entry inputs at₀ k₀ differ₀ at k differ = inputs - k
 
 pub replay-file-spec : {M : Type 1} → statement M
 replay-file-spec =
@@ -19,18 +19,12 @@ replay-file-spec =
     (λ c κs. search needs)
     (λ c. search needs)
     (λ c κs. search needs)
-    (λ c. search needs)
-    (λ c κs. search needs)
-    (λ c. search needs)
     (λ c κs. search needs)
     (λ c κs. search needs)
     (λ c. search needs)
     (λ c. search needs)
     (λ c. search needs)
     (λ c. search needs)
-    (λ c. search needs)
-    (λ c. search needs)
-    (λ c κs. search needs)
     (λ c. search needs)
     (λ c κs. search needs)
     (λ c. search needs))

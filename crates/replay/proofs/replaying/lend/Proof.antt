@@ -1,48 +1,33 @@
--- `lend`: each need by its law.
+-- `lend`: each need by its path.
 use Rattle.replay.proofs.Fronts.{front}
 use borrow.Author.Needs.{needs}
 use Rattle.replay.proofs.replaying.lend.Statement.{statement}
 use Rattle.replay.proofs.replaying.lend.Tie as tie
 
-slice-aggregate-run : tie.Need-slice-aggregate-run
-slice-aggregate-run c = search (needs, front)
-
-slice-aggregate-run-2 : tie.Need-slice-aggregate-run-2
-slice-aggregate-run-2 c = search (needs, front)
-
-slice-aggregate-run-3 : tie.Need-slice-aggregate-run-3
-slice-aggregate-run-3 c = search (needs, front)
-
-slice-aggregate-run-4 : tie.Need-slice-aggregate-run-4
-slice-aggregate-run-4 c = search (needs, front)
-
-slice-aggregate-run-5 : tie.Need-slice-aggregate-run-5
-slice-aggregate-run-5 c = search (needs, front)
-
 pub lend-spec : {M : Type 1} → statement M
 lend-spec =
     tie.close
     (tie.spec
-    (λ c κs. search needs)
-    (λ c κs. search needs)
-    (λ c κs. search needs)
-    (λ c κs. search needs)
-    (λ c κs. search needs)
-    (λ c κs. search needs)
-    (λ c. search needs)
-    slice-aggregate-run
-    (λ c. search needs)
-    slice-aggregate-run-2
-    (λ c. search needs)
-    slice-aggregate-run-3
-    (λ c. search needs)
-    slice-aggregate-run-4
-    (λ c. search needs)
-    slice-aggregate-run-5
-    (λ c κs. search needs)
-    (λ c. search needs)
-    (λ c. search needs)
+    (λ c κs. tt)
+    (λ c κs. tt)
+    (λ c κs. tt)
+    (λ c κs. tt)
+    (λ c κs. tt)
+    (λ c κs. tt)
+    (λ c. c .before .before .before .before .lent .ensures)
+    (λ c. front _ _ (c .before .before .before .before .before .lent .ensures))
+    (λ c. c .before .before .before .before .lent2 .ensures)
+    (λ c. front _ _ (c .before .before .before .before .before .lent2 .ensures))
+    (λ c. c .before .before .before .before .lent3 .ensures)
+    (λ c. front _ _ (c .before .before .before .before .before .lent3 .ensures))
+    (λ c. c .before .before .before .before .lent4 .ensures)
+    (λ c. front _ _ (c .before .before .before .before .before .lent4 .ensures))
+    (λ c. c .before .before .before .before .lent5 .ensures)
+    (λ c. front _ _ (c .before .before .before .before .before .lent5 .ensures))
+    (λ c κs. tt)
     (λ c. search needs)
     (λ c. search needs)
     (λ c. search needs)
-    (λ c. search needs))
+    (λ c. search needs)
+    (λ c. search needs)
+    (λ c. tt))
