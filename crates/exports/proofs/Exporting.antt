@@ -61,5 +61,3 @@ module _ (img out a b : List ℕ) (r : Answer) (out′ a′ b′ : List ℕ) whe
 
   pub share-fits : (limit : ℕ) → Kept (shareOutcome img out a b limit) out a b r out′ a′ b′ → lengthOf r < 4294967296
   share-fits limit K = fits (shareOutcome img out a b limit) out a b r out′ a′ b′ K (small-share img out a b limit)
-
-pub ruleset exports = (exported, exported2, read-fits, evaluate-fits, canonical-fits, dedup-fits, cleanup-fits, sort-fits, flatten-fits, factor-fits, share-fits)
