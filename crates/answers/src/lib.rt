@@ -1,6 +1,5 @@
 // What an entry answers: acceptance with the length of what it wrote, or a refusal with its number.
 ghost use mathlib.Core.Path.{_≡_};
-ghost use Prim.Native.Nat.{ℕ};
 ghost use Rattle.answers.specs.Numbers.{numberOf, lengthOf};
 
 pub enum Answer {

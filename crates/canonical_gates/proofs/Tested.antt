@@ -12,7 +12,6 @@ use Rattle.kinds.specs.Kinds.{kindOf}
 use Rattle.kinds.specs.declared.Kind.{Kind}
 use Rattle.kinds.specs.declared.Kind.the-variants.{And2, Xor2, And3, Xor3, Maj, Mux, AndN, OrN, NandN, NorN, XorN, XnorN, Buf, Dff, Lut}
 use Rattle.model.specs.Signal.{isInverted, isConstant, ind}
-use Rattle.model.specs.Gate.{fitsKind}
 use Rattle.model.specs.Normal.{gateOf, sortedN, noInv, proper, muxCanonical, dffCanonical, canonicalK, isCanonical}
 use Rattle.gates.specs.Normals.{Shaped}
 use Rattle.gates.proofs.Fronts.{first3}

@@ -10,7 +10,6 @@ use Rattle.kinds.specs.declared.Kind.{Kind}
 use Rattle.kinds.specs.declared.Kind.the-variants.{And2, Xor2, And3, Xor3, Maj, Mux, AndN, OrN, NandN, NorN, XorN, XnorN, Buf, Dff, Lut}
 use Rattle.signal.specs.declared.Signal.{Signal}
 use Rattle.model.specs.Signal.{neg}
-use Rattle.model.specs.Gate.{fitsKind}
 use Rattle.model.specs.Normal.{Norm, copied, gateOf, makeAnd, makeXor, makeAnd3, makeXor3, makeMaj, makeMux, makeDff, makeAndN, makeXorN, normalK, makeCanonical}
 use Rattle.gates.specs.Normals.{normalOf, Shaped}
 use Rattle.gates.specs.declared.Normalization.the-variants.{Copy, Node}

@@ -1,8 +1,7 @@
 // gates.rs, the whole gate: make_canonical and is_canonical, by kind.
 ghost use mathlib.Core.Path.{_≡_};
 ghost use mathlib.Core.List.{map};
-ghost use Prim.Native.Nat.{ℕ, _≤_};
-ghost use lib.ListN.{length, take};
+ghost use lib.ListN.{take};
 ghost use Rattle.model.specs.Signal.{neg};
 ghost use Rattle.model.specs.Normal.{gateOf, makeAndN, makeCanonical, proper, muxCanonical, dffCanonical, isCanonical};
 ghost use Rattle.gates.specs.Normals.{normalOf, Listed, Shaped};

@@ -1,6 +1,6 @@
 // What is translated when every node is handled: the flip-flops' inputs, and the outputs.
 ghost use mathlib.Core.Path.{_≡_};
-ghost use Prim.Native.Nat.{ℕ, _≤_};
+ghost use Prim.Native.Nat.{_≤_};
 ghost use lib.ListN.{length};
 ghost use Rattle.model.specs.Signal.{remapOrder};
 ghost use Rattle.tables.specs.Layout.{netSize, outputAt};

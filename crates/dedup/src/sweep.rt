@@ -1,6 +1,6 @@
 // The loops of dedup over the old nodes.
 ghost use mathlib.Core.Path.{_≡_};
-ghost use Prim.Native.Nat.{ℕ, _≤_};
+ghost use Prim.Native.Nat.{_≤_};
 ghost use lib.ListN.{length};
 ghost use Rattle.dedup.specs.States.{numbered, Sweeping};
 use dedup_node::dedup_node;

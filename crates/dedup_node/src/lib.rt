@@ -1,6 +1,5 @@
 // One old node of dedup: its gate gathered, normalized and looked up.
-ghost use mathlib.Core.Path.{_≡_};
-ghost use Prim.Native.Nat.{ℕ, _+_, _*_, _^_};
+ghost use Prim.Native.Nat.{_+_, _*_, _^_};
 ghost use lib.ListN.{drop};
 ghost use Rattle.tables.specs.Layout.{gateAt};
 ghost use Rattle.gates.specs.Normals.{normalOf};

@@ -4,15 +4,14 @@ use mathlib.Core.Logic.{_≢_}
 use Prim.Native.Nat.{ℕ, zero, suc, _+_, _*_, _^_, _≤_, _<_}
 use native.Mathlib.Omega.{arith}
 use native.Mathlib.Decide.{ℕ-discrete}
-use mathlib.Core.Bool.{Bool, true, false, cond}
-use mathlib.Core.List.{List, [], _∷_}
-use lib.ListN.{length, getD}
+use mathlib.Core.Bool.{cond}
+use mathlib.Core.List.{List}
+use lib.ListN.{length}
 use Rattle.kinds.specs.Kinds.{kindOf}
 use Rattle.laws.specs.Bools.{xor, bit}
-use Rattle.laws.specs.Lists.{tab}
 use Rattle.laws.proofs.Tabs.{tab-ext}
 use Rattle.model.specs.Signal.{isInverted}
-use Rattle.model.specs.Evaluate.{valueOf, nextState, truths}
+use Rattle.model.specs.Evaluate.{valueOf, truths}
 use Rattle.tables.specs.Layout.{kindAt, firstAt, countAt, inputAt, lowAt, highAt, outputAt, cell, store}
 use Rattle.tables.proofs.Places.{length-store, cell-store, cell-store-other}
 use Rattle.signal_values.specs.Signals.{valuesBase, valuesEnd, slot, isOdd, valueAt, inputValue, dffAt}

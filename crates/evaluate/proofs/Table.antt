@@ -1,7 +1,6 @@
 -- What the table of values holds: the inputs' and, after the forward pass, the nodes' values of the model's cycle. So the bytes
 -- that are written are the model's.
-use mathlib.Core.Path.{_≡_, refl, sym, ap, subst, _∙_}
-use mathlib.Core.Logic.{_≢_}
+use mathlib.Core.Path.{_≡_, sym, ap, subst, _∙_}
 use Prim.Native.Nat.{ℕ, zero, suc, _+_, _-_, _*_, _/_, _%_, _^_, _≤_, _<_}
 use native.Mathlib.Nat.{not-suc-le-zero}
 use native.Mathlib.Omega.{arith}
@@ -29,7 +28,6 @@ use Rattle.tables.specs.Holding.{networkOf}
 use Rattle.tables.specs.declared.counts.Counts.{Counts}
 use Rattle.tables.proofs.Holding.{size-network, gate-network, getD-insAt, length-insAt, getD-outputsOf, length-outputsOf}
 use Rattle.tables.specs.Layout.{kindAt, firstAt, countAt, inputAt, lowAt, highAt, outputAt, insAt, gateAt, outputsOf, netOf, cell, store}
-use Rattle.tables.proofs.Places.{length-store, cell-store, cell-store-other}
 use Rattle.signal_values.specs.Signals.{valuesBase, valuesEnd, slot, isOdd, valueAt, inputValue, dffAt}
 use Rattle.values.specs.Values.{gateValueAt, shownAt}
 use Rattle.signal_values.proofs.Bits.{odd-bit}

@@ -2,7 +2,7 @@
 // written, and the state bytes of flip-flops only.
 ghost use mathlib.Core.Path.{_≡_};
 ghost use mathlib.Core.Bool.{false};
-ghost use Prim.Native.Nat.{ℕ, _≤_};
+ghost use Prim.Native.Nat.{_≤_};
 ghost use lib.ListN.{length};
 ghost use Rattle.model.specs.Answers.{areasShort, inAreas, Kept2};
 ghost use Rattle.model.specs.Entries.{evaluateOutcome};

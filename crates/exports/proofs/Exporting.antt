@@ -1,11 +1,11 @@
 -- From an entry's promise to its exported one.
-use mathlib.Core.Path.{_≡_, refl, sym, ap, _∙_, subst}
+use mathlib.Core.Path.{_≡_, refl, ap, _∙_}
 use mathlib.Core.List.{List}
 use Prim.Native.Nat.{ℕ, _<_}
 use native.Mathlib.Omega.{arith}
 use Rattle.answers.specs.Numbers.{lengthOf}
 use Rattle.answers.specs.declared.Answer.{Answer}
-use Rattle.model.specs.Answers.{Outcome, answerOf, Kept, Kept2}
+use Rattle.model.specs.Answers.{Outcome, Kept, Kept2}
 use Rattle.model.specs.Entries.{readOutcome, evaluateOutcome, canonicalOutcome, dedupOutcome, cleanupOutcome, sortOutcome, flattenOutcome, factorOutcome, shareOutcome}
 use Rattle.exports.specs.Packed.{packed, Exported, Exported2}
 use Rattle.exports.proofs.Small.{Small, small-read, small-evaluate, small-canonical, small-dedup, small-cleanup, small-sort, small-flatten, small-factor, small-share}

@@ -1,8 +1,8 @@
 -- A length fits 32 bits: an image has at most 512 headers, 2,048 inputs, 1,024 table words, 64 outputs and a trailer.
-use mathlib.Core.Path.{_≡_, refl, sym, ap, _∙_}
-use mathlib.Core.Bool.{Bool, true, false, cond, _&&_}
+use mathlib.Core.Path.{_≡_}
+use mathlib.Core.Bool.{true, cond, _&&_}
 use mathlib.Core.List.{List, []}
-use Prim.Native.Nat.{ℕ, zero, suc, _≤_, _<_}
+use Prim.Native.Nat.{ℕ, _≤_}
 use native.Mathlib.Omega.{arith}
 use lib.ListN.{length}
 use lib.Dec.{eqb, leb, ltb}
@@ -26,7 +26,7 @@ use Rattle.shape.proofs.Sort.{sort-valid}
 use Rattle.shape.proofs.Flatten.{flatten-valid, flatten-sorted}
 use Rattle.shape.proofs.FactoringPass.{factor-valid}
 use Rattle.shape.proofs.Dedup.{dedup-valid}
-use Rattle.shape.proofs.DedupNormal.{NormLaw, asIs-law, canonical-law}
+use Rattle.shape.proofs.DedupNormal.{asIs-law, canonical-law}
 
 -- the length that an outcome answers
 pub record Small (o : Outcome) : Type 0 where

@@ -1,6 +1,6 @@
 // The entries for C and Rust (include/lanternlean.h), each with the entry's own promise. A slice is a pointer and a length in elements.
 ghost use mathlib.Core.Path.{_≡_};
-ghost use Prim.Native.Nat.{ℕ, _<_};
+ghost use Prim.Native.Nat.{_<_};
 ghost use lib.ListN.{length};
 ghost use Rattle.answers.specs.Numbers.{lengthOf};
 ghost use Rattle.model.specs.Image.{recordOf, recordAtOf};

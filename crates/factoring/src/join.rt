@@ -1,6 +1,6 @@
 // finalize: what is left of each gate joined two by two, in rounds, until one signal is left.
 ghost use mathlib.Core.Path.{_≡_};
-ghost use Prim.Native.Nat.{ℕ, _+_, _*_, _/_, _<_, _≤_};
+ghost use Prim.Native.Nat.{_+_, _*_, _/_, _<_, _≤_};
 ghost use lib.ListN.{length};
 ghost use Rattle.model.specs.Sharing.{joinGate, joinGates};
 ghost use Rattle.pairs.specs.Lists.{areaSize, leftAt};

@@ -1,5 +1,4 @@
 -- What flip-flops store at the end of a cycle, and what a pass over the nodes asks.
-use mathlib.Core.Path.{_≡_}
 use Prim.Native.Nat.{ℕ, _≤_, _<_}
 use mathlib.Core.Bool.{Bool, cond}
 use mathlib.Core.List.{List, [], _∷_}

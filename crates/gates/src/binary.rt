@@ -1,6 +1,6 @@
 // The gates of two inputs.
 ghost use mathlib.Core.Path.{_≡_};
-ghost use Prim.Native.Nat.{ℕ, _≤_};
+ghost use Prim.Native.Nat.{_≤_};
 ghost use lib.ListN.{length};
 ghost use Rattle.model.specs.Normal.{makeAnd, makeXor};
 ghost use Rattle.gates.specs.Normals.{normalOf};

@@ -1,9 +1,8 @@
 // gates.rs: what a normalization is, and the gates of two inputs. A normalization is a copy of a signal, or a gate with an
 // inversion whose inputs stand at the front of a lent list.
 ghost use mathlib.Core.Path.{_≡_};
-ghost use mathlib.Core.List.{_∷_, []};
-ghost use Prim.Native.Nat.{ℕ, _≤_};
-ghost use lib.ListN.{length, take};
+ghost use Prim.Native.Nat.{_≤_};
+ghost use lib.ListN.{length};
 ghost use Rattle.model.specs.Normal.{made2, made3};
 ghost use Rattle.gates.specs.Normals.{normalOf};
 use kinds::Kind;

@@ -1,6 +1,5 @@
 // Plain reading: 1; 2 to 6; 13; or the image of what was read, the given one without its prefix.
-ghost use mathlib.Core.Path.{_≡_};
-ghost use Prim.Native.Nat.{ℕ, _≤_};
+ghost use Prim.Native.Nat.{_≤_};
 ghost use lib.ListN.{length};
 ghost use Rattle.model.specs.Answers.{Kept};
 ghost use Rattle.model.specs.Entries.{readOutcome};

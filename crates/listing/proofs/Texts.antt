@@ -14,7 +14,7 @@ use Rattle.model.proofs.Words.{inv-odd, inv-even, constant-ref, var-ref, input-
 use Rattle.signal.proofs.Masks.{input-high, some-low}
 use Rattle.text_parts.specs.Putting.{Put}
 use Rattle.listing.proofs.Decimals.{decimal-low, decimal-high}
-use Rattle.text_parts.proofs.Puts.{put-none, put-then}
+use Rattle.text_parts.proofs.Puts.{put-then}
 
 module _ (b : List ℕ) (at n : ℕ) where
   pub number-low : n < 10 → (x : ℕ) → x ≡ 48 + n → (b′ : List ℕ) (r : ℕ) → Put b at (x ∷ []) b′ r → Put b at (decimal n) b′ r

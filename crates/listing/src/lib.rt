@@ -1,7 +1,7 @@
 // A network as text, into a lent buffer. First its length, then 13 or the bytes, and nothing past them.
 ghost use mathlib.Core.Path.{_≡_};
 ghost use mathlib.Core.List.{[], _++_};
-ghost use Prim.Native.Nat.{_+_, _*_, _<_};
+ghost use Prim.Native.Nat.{_+_, _<_};
 ghost use lib.ListN.{length};
 ghost use Rattle.model.specs.Answers.{written, inRoom};
 ghost use Rattle.model.specs.Listing.{decimal, spaced, numbered, countsLine, tableFields, nodeLine, outputLine, listingOf};

@@ -1,7 +1,7 @@
 // Numbers, signals and kinds as text, put into a lent buffer at a place: each function answers the place behind. What has no room is
 // left out, and places go on all the same.
 ghost use mathlib.Core.Path.{_≡_};
-ghost use mathlib.Core.List.{[], _∷_};
+ghost use mathlib.Core.List.{_∷_};
 ghost use Prim.Native.Nat.{_+_, _-_, _<_, _≤_};
 ghost use lib.ListN.{length, take, drop};
 ghost use Rattle.model.specs.Listing.{decimal, signalText, kindText};

@@ -1,7 +1,7 @@
 -- The laws of loading an image: what `check` answered, and the body behind the prefix.
-use mathlib.Core.Path.{_≡_, refl, sym, ap, _∙_, subst}
+use mathlib.Core.Path.{_≡_, sym, ap, _∙_, subst}
 use mathlib.Core.List.{List}
-use Prim.Native.Nat.{ℕ, zero, suc, _+_, _-_, _≤_, _<_}
+use Prim.Native.Nat.{ℕ, zero, suc, _+_, _-_, _≤_}
 use native.Mathlib.Omega.{arith}
 use lib.ListN.{length, take, drop, length-drop}
 use lib.Seq.{take-all}
@@ -18,7 +18,6 @@ use Rattle.image.proofs.Checks.{refused-number, sound-number}
 use Rattle.tables.specs.Layout.{netSize}
 use Rattle.tables.specs.Holding.{Holds}
 use Rattle.tables.specs.declared.counts.Counts.{Counts}
-use Rattle.load.specs.declared.Loaded.{Loaded}
 use Rattle.load.specs.declared.Loaded.the-variants.{Refused, Network}
 use Rattle.load_body.specs.Loading.{Loadable}
 use Rattle.load.specs.Images.{countsOf, loadedAs, AcceptedFrame, Counted, Read}

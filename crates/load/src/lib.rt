@@ -1,11 +1,9 @@
 // Loading: an image checked, and its network put into an area.
-ghost use mathlib.Core.Path.{_≡_};
-ghost use Prim.Native.Nat.{ℕ, _≤_};
+ghost use Prim.Native.Nat.{_≤_};
 ghost use lib.ListN.{length};
-ghost use Rattle.model.specs.Image.{refusalOf, sortedRefusalOf, netOf};
+ghost use Rattle.model.specs.Image.{refusalOf, sortedRefusalOf};
 ghost use Rattle.tables.specs.Layout.{netSize};
-ghost use Rattle.tables.specs.Holding.{Holds};
-ghost use Rattle.load.specs.Images.{countsOf, AcceptedFrame, Counted, Read};
+ghost use Rattle.load.specs.Images.{AcceptedFrame, Counted, Read};
 use image::Checked;
 use image::Frame;
 use load_body::load_body;

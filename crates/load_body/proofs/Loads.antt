@@ -2,24 +2,23 @@
 use mathlib.Core.Path.{_≡_, refl, sym, ap, _∙_}
 use mathlib.Core.Logic.{_≢_}
 use mathlib.Core.Bool.{Bool, true, false, cond}
-use mathlib.Core.List.{List, [], _∷_, _++_}
-use Prim.Native.Nat.{ℕ, zero, suc, _+_, _-_, _*_, _/_, _%_, _^_, _≤_, _<_}
+use mathlib.Core.List.{List}
+use Prim.Native.Nat.{ℕ, suc, _+_, _-_, _*_, _/_, _%_, _^_, _≤_, _<_}
 use native.Mathlib.Omega.{arith}
 use native.Mathlib.Numerals.{add-one}
 use mir.Val.{Fits as FitsIn}
 use mir.Syntax.{w32, w64}
 use lib.ListN.{length, getD, take, drop, length-drop}
 use lib.Seq.{getD-drop, length-take-le}
-use lib.Dec.{eqb}
 use borrow.Author.Tests.{eq-eqb, ne-eqb}
 use Rattle.laws.specs.Lists.{tab}
 use Rattle.laws.proofs.Tabs.{take-tab, tab-ext}
-use Rattle.model.specs.Gate.{Gate, Net, Valid, isLut, fanin}
-use Rattle.model.specs.Image.{words, codeAt, countAt, extra, sizeAt, tableAt, recordGate, gatesFrom, endFrom, netIn}
+use Rattle.model.specs.Gate.{isLut, fanin}
+use Rattle.model.specs.Image.{words, codeAt, countAt, sizeAt, tableAt, recordGate, gatesFrom, endFrom, netIn}
 use Rattle.model.proofs.Bytes.{length-words}
 use Rattle.shape.proofs.Walks.{count-lt-size, end-last, length-gates}
-use Rattle.tables.specs.Layout.{netSize, nodesOf, outputsOf, putGate, putTable}
-use Rattle.tables.specs.Building.{putInputs, putNode, putOutputs, Packed}
+use Rattle.tables.specs.Layout.{nodesOf, putGate, putTable}
+use Rattle.tables.specs.Building.{putInputs, putNode, putOutputs}
 use Rattle.tables.specs.Holding.{Holds}
 use Rattle.tables.specs.declared.counts.Counts.{Counts}
 use Rattle.shape.proofs.Written.{gate-eq}

@@ -1,6 +1,6 @@
 // The body of an accepted image into an area, in one pass over the records. It cannot fail.
 ghost use mathlib.Core.Path.{_≡_};
-ghost use Prim.Native.Nat.{ℕ, _+_};
+ghost use Prim.Native.Nat.{_+_};
 ghost use Rattle.model.specs.Image.{words, netIn};
 ghost use Rattle.tables.specs.Building.{putInputs, putOutputs};
 ghost use Rattle.tables.specs.Holding.{Holds};

@@ -1,6 +1,6 @@
 // The new nodes in chains, one for each bucket that a gate can fall into.
 ghost use mathlib.Core.Path.{_≡_};
-ghost use Prim.Native.Nat.{ℕ, _+_, _<_, _≤_};
+ghost use Prim.Native.Nat.{_+_, _<_, _≤_};
 ghost use lib.ListN.{length};
 ghost use Rattle.same_gate.specs.Listed.{listBase, listed};
 ghost use Rattle.tables.specs.Layout.{cell};

@@ -9,7 +9,7 @@ use lib.Dec.{eqb}
 use Rattle.laws.specs.Bools.{bit}
 use Rattle.laws.specs.Lists.{tab}
 use Rattle.model.specs.Signal.{Ref, rzero, rnode, rinput, ref, flip, fromVar, remapOrder}
-use Rattle.model.specs.Gate.{Gate, Net, isDff, remapGate, noGate, gateAt, size}
+use Rattle.model.specs.Gate.{Gate, Net, isDff, remapGate, gateAt, size}
 use Rattle.model.specs.Normal.{Norm, copied, made, makeCanonical}
 
 -- the nodes that signals name, in their order: vars

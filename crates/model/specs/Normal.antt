@@ -1,6 +1,6 @@
 -- Normal forms (gates.rs): a normalization is a copy of a signal, or a gate with an inversion. Each definition renders the
 -- Rust function of its name, test for test.
-use Prim.Native.Nat.{ℕ, _/_, _<_}
+use Prim.Native.Nat.{ℕ}
 use mathlib.Core.Bool.{Bool, true, false, not, cond, _&&_, _||_}
 use mathlib.Core.List.{List, [], _∷_, map}
 use lib.ListN.{length, getD}
@@ -11,7 +11,7 @@ use Rattle.kinds.specs.declared.Kind.the-variants.{And2, Xor2, And3, Xor3, Maj,
 use Rattle.laws.specs.Bools.{xor}
 use Rattle.model.specs.Signal.{isInverted, ind, flip, neg, withoutInversion, fromBool, isConstant}
 use Rattle.model.specs.Gate.{Gate}
-use Rattle.model.specs.Evaluate.{valueOf, signalValue, gateValue}
+use Rattle.model.specs.Evaluate.{signalValue, gateValue}
 
 pub data Norm : Type 0 where
   copied : ℕ → Norm

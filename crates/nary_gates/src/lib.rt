@@ -1,7 +1,6 @@
 // gates.rs: the gates of any number of inputs: n signals at the front of the list.
 ghost use mathlib.Core.Path.{_≡_};
-ghost use Prim.Native.Nat.{ℕ, _≤_};
-ghost use lib.ListN.{length, take};
+ghost use lib.ListN.{take};
 ghost use Rattle.model.specs.Normal.{andWide, makeAndN, xorSome, makeXorN};
 ghost use Rattle.gates.specs.Normals.{normalOf, Listed};
 use gates::Normalization;

@@ -1,6 +1,6 @@
 // Equal neighbours dropped from a list at the front of lent words: what gates.rs does to a vector in order, for make_andn and make_xorn.
 ghost use mathlib.Core.Path.{_≡_};
-ghost use Prim.Native.Nat.{ℕ, _+_, _≤_, _<_};
+ghost use Prim.Native.Nat.{_+_, _≤_, _<_};
 ghost use lib.ListN.{length, take};
 ghost use Rattle.model.specs.Normal.{uniq, cancel};
 ghost use Rattle.laws.specs.Lists.{part};

@@ -1,6 +1,6 @@
 // Where a factoring pass keeps its words: the only functions that know the places.
 ghost use mathlib.Core.Path.{_≡_};
-ghost use Prim.Native.Nat.{ℕ, _+_, _<_, _≤_};
+ghost use Prim.Native.Nat.{_<_, _≤_};
 ghost use lib.ListN.{length};
 ghost use Rattle.model.specs.Signal.{fromVar};
 ghost use Rattle.pairs.specs.Lists.{areaSize, sigAt, startAt, leftAt, usedAt, putSig, putStart, putLeft, putUsed, pairAt, putPair};

@@ -1,6 +1,6 @@
 // The gate under work: its inputs at the front of a list in the area that is written.
 ghost use mathlib.Core.Path.{_≡_};
-ghost use Prim.Native.Nat.{ℕ, _≤_};
+ghost use Prim.Native.Nat.{_≤_};
 ghost use lib.ListN.{length, take};
 ghost use Rattle.model.specs.Signal.{remapOrder};
 ghost use Rattle.model.specs.Normal.{gateOf};

@@ -1,6 +1,6 @@
 // The gate in the list among the new nodes: where it stands, or put behind them.
 ghost use mathlib.Core.Path.{_≡_};
-ghost use Prim.Native.Nat.{ℕ, _+_, _≤_, _<_};
+ghost use Prim.Native.Nat.{_+_, _≤_, _<_};
 ghost use lib.ListN.{length};
 ghost use Rattle.tables.specs.Layout.{cell};
 ghost use Rattle.tables.specs.Building.{putInputs};

@@ -1,6 +1,5 @@
 // Refusal 9: "an And2, And3 or n-ary And of two or more inputs lists a signal twice".
 ghost use mathlib.Core.Path.{_≡_};
-ghost use Prim.Native.Nat.{ℕ};
 ghost use Rattle.model.specs.Sharing.{repeats, anyRepeats};
 ghost use Rattle.tables.specs.Layout.{insAt, nodesOf};
 ghost use Rattle.repeats.specs.Reading.{Node, Nodes, repeatsRefusal};

@@ -1,6 +1,5 @@
 // What is lent to an entry: filled with a pattern before, and compared afterwards with what is recorded and the pattern behind it.
-ghost use Prim.Native.Nat.{_≤_, _<_};
-ghost use lib.ListN.{length};
+ghost use Prim.Native.Nat.{_<_};
 use words::nth;
 
 // The pattern.

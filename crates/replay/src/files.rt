@@ -1,6 +1,4 @@
 // The files of recorded answers: a head of four words, then record after record.
-ghost use Prim.Native.Nat.{_≤_};
-ghost use lib.ListN.{length};
 use crate::buffers::slice;
 use crate::entries::CODES;
 use crate::entries::name;

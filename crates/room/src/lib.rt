@@ -1,6 +1,5 @@
 // How many new nodes a pass has room for under 12.
 ghost use mathlib.Core.Path.{_≡_};
-ghost use Prim.Native.Nat.{ℕ};
 ghost use Rattle.tables.specs.Layout.{nodesOf};
 ghost use Rattle.shape.specs.Room.{bufInputs, roomOf};
 ghost use Rattle.uses.specs.Loading.{Source};

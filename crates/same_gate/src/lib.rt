@@ -1,6 +1,6 @@
 // Whether a new node of dedup has the gate whose inputs stand in the list.
 ghost use mathlib.Core.Path.{_≡_};
-ghost use Prim.Native.Nat.{ℕ, _+_, _≤_};
+ghost use Prim.Native.Nat.{_+_, _≤_};
 ghost use lib.ListN.{length};
 ghost use Rattle.model.specs.Network.{sameGate};
 ghost use Rattle.tables.specs.Layout.{gateAt};

@@ -6,7 +6,6 @@ use mathlib.Core.List.{List, []}
 use lib.ListN.{length, take, drop, length-drop}
 use lib.Seq.{take-all}
 use borrow.Author.Tests.{le-ltb}
-use Rattle.model.specs.Answers.{written}
 use Rattle.model.specs.Entries.{shareOutcome}
 use Rattle.model.specs.Image.{wordAt, sortedRefusalOf, netOf, imageOf}
 use Rattle.model.specs.Sharing.{shareLogic}

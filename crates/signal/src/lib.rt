@@ -1,9 +1,8 @@
 // signal.rs: a boolean variable or its complement. Bit 0 is inversion, the rest the index; bit 31 marks an input.
 ghost use mathlib.Core.Path.{_≡_};
 ghost use mathlib.Core.Bool.{not};
-ghost use Prim.Native.Nat.{ℕ, suc, _+_, _-_, _*_, _/_, _%_, _≤_, _<_};
-ghost use lib.ListN.{length, getD};
-ghost use lib.Dec.{ltb, leb, eqb};
+ghost use Prim.Native.Nat.{_+_, _-_, _*_, _/_, _%_, _≤_, _<_};
+ghost use lib.ListN.{getD};
 ghost use Rattle.model.specs.Signal.{isInverted, flip, neg, withoutInversion, fromBool, fromVar, fromInput, isInput, isConstant, isVar};
 ghost use Rattle.signal.specs.Signals.{remapped};
 

@@ -1,20 +1,19 @@
 -- What a gate and the outputs put into an area leave there. Knows no place of a word.
 use Prim.Native.Nat.{ℕ, zero, suc, _+_, _*_, _^_, _≤_, _<_}
-use mathlib.Core.Path.{_≡_, refl, sym, ap, _∙_}
+use mathlib.Core.Path.{_≡_, refl, ap, _∙_}
 use mathlib.Core.Logic.{_≢_}
 use mathlib.Core.List.{List, [], _∷_, _++_}
 use native.Mathlib.Omega.{arith}
 use native.Mathlib.Decide.{ℕ-discrete}
 use lib.ListN.{length}
-use Rattle.model.specs.Gate.{Gate}
 use Rattle.shape.proofs.Written.{gate-eq}
 use Rattle.laws.specs.Lists.{tab}
 use Rattle.laws.proofs.Tabs.{tab-ext}
 use Rattle.tables.specs.Layout.{netSize, kindAt, firstAt, countAt, inputAt, lowAt, highAt, outputAt, insAt, gateAt, nodesOf, outputsOf, putGate, putInput, putTable, putOutput, cell}
 use Rattle.tables.specs.Building.{putInputs, putNode, putOutputs, Packed}
-use Rattle.tables.proofs.Places.{length-putGate, kindAt-putGate, firstAt-putGate, countAt-putGate, kindAt-putGate-other, firstAt-putGate-other, countAt-putGate-other, inputAt-putGate, lowAt-putGate, highAt-putGate, outputAt-putGate, cell-putGate}
-use Rattle.tables.proofs.Places.{length-putInput, inputAt-putInput, inputAt-putInput-other, kindAt-putInput, firstAt-putInput, countAt-putInput, lowAt-putInput, highAt-putInput, outputAt-putInput, cell-putInput}
-use Rattle.tables.proofs.Places.{length-putTable, lowAt-putTable, highAt-putTable, lowAt-putTable-other, highAt-putTable-other, kindAt-putTable, firstAt-putTable, countAt-putTable, inputAt-putTable, outputAt-putTable, cell-putTable}
+use Rattle.tables.proofs.Places.{length-putGate, kindAt-putGate, firstAt-putGate, countAt-putGate, kindAt-putGate-other, firstAt-putGate-other, countAt-putGate-other, inputAt-putGate, lowAt-putGate, highAt-putGate, cell-putGate}
+use Rattle.tables.proofs.Places.{length-putInput, inputAt-putInput, inputAt-putInput-other, kindAt-putInput, firstAt-putInput, countAt-putInput, lowAt-putInput, highAt-putInput, cell-putInput}
+use Rattle.tables.proofs.Places.{length-putTable, lowAt-putTable, highAt-putTable, lowAt-putTable-other, highAt-putTable-other, kindAt-putTable, firstAt-putTable, countAt-putTable, inputAt-putTable, cell-putTable}
 use Rattle.tables.proofs.Places.{length-putOutput, outputAt-putOutput, outputAt-putOutput-other, kindAt-putOutput, firstAt-putOutput, countAt-putOutput, lowAt-putOutput, highAt-putOutput, inputAt-putOutput, cell-putOutput}
 use Rattle.tables.proofs.Gates.{gateAt-same}
 

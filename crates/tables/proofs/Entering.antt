@@ -1,9 +1,9 @@
 -- The outside of every entry: 1, or its work over the first 16,384 words of both areas, which are then cleared.
 -- The premises are what an entry's code meets: `areas_short`, the work's promise on the parts, and `clear_areas`'s.
-use mathlib.Core.Path.{_≡_, refl, sym, ap, _∙_}
-use mathlib.Core.Bool.{Bool, true, false, cond, _||_}
+use mathlib.Core.Path.{_≡_, sym, ap, _∙_}
+use mathlib.Core.Bool.{Bool, true, false}
 use mathlib.Core.List.{List, _++_}
-use Prim.Native.Nat.{ℕ, _≤_, _<_}
+use Prim.Native.Nat.{ℕ, _≤_}
 use native.Mathlib.Omega.{arith}
 use lib.ListN.{length, take, drop, replicate}
 use lib.Seq.{drop-at, length-take-le, length-front}

@@ -1,19 +1,12 @@
 -- The gates that words hold, by their readings. Knows no place of a word.
-use Prim.Native.Nat.{ℕ, zero, suc, _+_, _*_, _^_, _≤_, _<_}
-use mathlib.Core.Path.{_≡_, refl, sym, ap, _∙_}
-use mathlib.Core.Logic.{_≢_, ⊎-elim}
-use mathlib.Core.List.{List, [], _∷_, _++_, map, map-append}
-use native.Mathlib.Nat.{eq-or-lt-of-le, le-of-suc-le-suc}
-use native.Mathlib.Omega.{arith}
-use lib.ListN.{length, getD, take, length-append, List·getD-append}
-use lib.Seq.{getD-at, take-suc}
-use Rattle.model.specs.Gate.{Gate, mapGate}
+use Prim.Native.Nat.{ℕ, _+_, _<_}
+use mathlib.Core.Path.{_≡_, sym, ap, _∙_}
+use mathlib.Core.List.{List}
+use Rattle.model.specs.Gate.{mapGate}
 use Rattle.shape.proofs.Written.{gate-eq}
 use Rattle.laws.specs.Lists.{tab}
 use Rattle.laws.proofs.Tabs.{tab-ext, map-tab}
-use Rattle.tables.specs.Layout.{netSize, kindAt, firstAt, countAt, inputAt, lowAt, highAt, insAt, gateAt, putGate, putInput, putTable, putOutput}
-use Rattle.tables.proofs.Places.{kindAt-putGate, firstAt-putGate, countAt-putGate, kindAt-putGate-other, firstAt-putGate-other, countAt-putGate-other}
-use Rattle.tables.proofs.Places.{inputAt-putGate, lowAt-putGate, highAt-putGate}
+use Rattle.tables.specs.Layout.{kindAt, firstAt, countAt, inputAt, lowAt, highAt, insAt, gateAt}
 
 -- node w of l is node v of m with its inputs put through t, where each word is
 pub gateAt-by : (t : ℕ → ℕ) (l m : List ℕ) (w v : ℕ) → kindAt l w ≡ kindAt m v → countAt l w ≡ countAt m v

@@ -1,24 +1,24 @@
 -- What a held network says of each of its words, and how a pass comes to hold one.
 use Prim.Native.Nat.{ℕ, zero, suc, _+_, _*_, _^_, _≤_, _<_}
-use mathlib.Core.Path.{_≡_, refl, sym, ap, _∙_, subst}
-use mathlib.Core.Bool.{Bool, true, _&&_}
-use mathlib.Core.List.{List, [], _∷_, _++_}
+use mathlib.Core.Path.{_≡_, sym, ap, _∙_, subst}
+use mathlib.Core.Bool.{true}
+use mathlib.Core.List.{List, [], _∷_}
 use native.Mathlib.Omega.{arith}
 use lib.ListN.{length, getD}
 use lib.Dec.{ltb}
 use borrow.Author.Tests.{ltb-true}
-use Rattle.laws.specs.Lists.{All, tab}
+use Rattle.laws.specs.Lists.{All}
 use Rattle.laws.proofs.Lists.{all-at}
 use Rattle.laws.proofs.Tabs.{length-tab, getD-tab}
 use Rattle.laws.proofs.Bools.{and-left, and-right}
 use Rattle.kinds.specs.Kinds.{kindOf}
-use Rattle.model.specs.Gate.{Gate, Net, Valid, noGate, size, fitsKind, fitsCode, fitsTable, shaped, fanin, named, allNamed, gatesNamed, wired}
+use Rattle.model.specs.Gate.{Gate, Net, Valid, noGate, size, fitsKind, fitsCode, fitsTable, shaped, fanin, named}
 use Rattle.model.specs.Gate as model
 use Rattle.model.specs.Network.{sumTo}
 use Rattle.shape.proofs.FactoringGrown.{fanin-append}
 use Rattle.shape.proofs.Written.{net-eq}
 use Rattle.shape.proofs.Named.{Here, shaped-at, wired-ins, wired-outs}
-use Rattle.tables.specs.Layout.{netSize, kindAt, firstAt, countAt, inputAt, lowAt, highAt, outputAt, insAt, gateAt, nodesOf, outputsOf, netOf}
+use Rattle.tables.specs.Layout.{kindAt, firstAt, countAt, inputAt, lowAt, highAt, outputAt, insAt, gateAt, nodesOf, outputsOf, netOf}
 use Rattle.tables.specs.Building.{Packed}
 use Rattle.tables.specs.Holding.{networkOf, Held, Holds}
 use Rattle.tables.specs.declared.counts.Counts.{Counts}

@@ -1,6 +1,6 @@
 // A network in an area: where each word of it stands, read and put; and the areas cleared.
 ghost use mathlib.Core.Path.{_≡_};
-ghost use Prim.Native.Nat.{ℕ, _+_, _-_, _*_, _<_, _≤_};
+ghost use Prim.Native.Nat.{_+_, _-_, _*_, _<_, _≤_};
 ghost use lib.ListN.{length};
 ghost use Rattle.model.specs.Answers.{areasShort};
 ghost use Rattle.tables.specs.Working.{Areas, Cleared};

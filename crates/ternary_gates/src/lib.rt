@@ -1,6 +1,6 @@
 // gates.rs: the gates of three inputs that need no turning, And3, Xor3 and Dff.
 ghost use mathlib.Core.Path.{_≡_};
-ghost use Prim.Native.Nat.{ℕ, _≤_};
+ghost use Prim.Native.Nat.{_≤_};
 ghost use lib.ListN.{length};
 ghost use Rattle.model.specs.Normal.{makeAnd3, makeXor3, makeDff};
 ghost use Rattle.gates.specs.Normals.{normalOf};

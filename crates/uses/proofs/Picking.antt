@@ -22,7 +22,6 @@ use Rattle.pairs.proofs.Places.{putList-append, usedAt-putList}
 use Rattle.pairs.proofs.Walks.{drop-lists, lists-end}
 use Rattle.uses.proofs.Tallies.{ix-small}
 use Rattle.uses.proofs.Walks.{ahead, ahead-all, ahead-none, ahead-suc, node-fits, node-more, node-named, node-place}
-use Rattle.kinds.specs.declared.Family.{Family}
 
 -- ---- retain
 

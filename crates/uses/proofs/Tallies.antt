@@ -16,7 +16,6 @@ use Rattle.uses.specs.Loading.{Marked, SameLists}
 use Rattle.uses.specs.Uses.{Named, bump, isOnce, tally, tallyAll, useAt, useIx, useRoom, zeroed}
 use Rattle.laws.proofs.Choices.{by-bool, by-test}
 use Rattle.pairs.proofs.Places.{leftAt-putUsed, length-putUsed, sigAt-putUsed, startAt-putUsed, usedAt-putUsed, usedAt-putUsed-other}
-use Rattle.kinds.specs.declared.Family.{Family}
 
 pub ix-low : (s : ℕ) → s < 2147483648 → useIx s ≡ s
 unfolding useIx

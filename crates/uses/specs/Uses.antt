@@ -5,7 +5,6 @@ use mathlib.Core.Bool.{Bool, cond, not}
 use mathlib.Core.List.{List, [], _∷_}
 use lib.Dec.{eqb, ltb}
 use Rattle.pairs.specs.Lists.{putUsed, usedAt}
-use Rattle.kinds.specs.declared.Family.{Family}
 
 -- nodes in front, then inputs
 unfoldable pub useIx : ℕ → ℕ

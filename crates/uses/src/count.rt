@@ -1,6 +1,6 @@
 // count_signal_usage: which signals the gates of a pass use once.
 ghost use mathlib.Core.Path.{_≡_};
-ghost use Prim.Native.Nat.{ℕ, _<_, _≤_};
+ghost use Prim.Native.Nat.{_<_, _≤_};
 ghost use lib.ListN.{length};
 ghost use Rattle.model.specs.Sharing.{takes};
 ghost use Rattle.tables.specs.Layout.{netSize, insAt, gateAt};

@@ -1,15 +1,12 @@
 -- A gate's value by the number of its inputs that are one.
 use mathlib.Core.Path.{_≡_, refl, sym, ap, _∙_}
 use mathlib.Core.Logic.{_≢_}
-use Prim.Native.Nat.{ℕ, zero, suc, _+_, _*_, _%_, _^_, _≤_, _<_}
-use native.Mathlib.Nat.{not-suc-le-zero, le-of-suc-le-suc, pow-succ'}
-use lib.Pow.{pow-pos}
+use Prim.Native.Nat.{ℕ, zero, suc, _+_, _%_, _≤_}
 use native.Mathlib.Omega.{arith}
 use native.Mathlib.Decide.{ℕ-discrete}
 use native.Mathlib.Numerals.{add-one}
 use mathlib.Core.Bool.{Bool, true, false, not, _&&_, _||_}
 use mathlib.Core.List.{List, [], _∷_, _++_}
-use lib.ListN.{length}
 use lib.Dec.{eqb, ltb, eqb·suc-suc}
 use borrow.Author.Tests.{eq-eqb, ne-eqb, lt-ltb, eqb-true}
 use Rattle.kinds.specs.Kinds.{codeOf}
@@ -19,7 +16,7 @@ use Rattle.laws.specs.Bools.{xor, bit}
 use Rattle.laws.specs.Lists.{tab}
 use Rattle.laws.proofs.Bools.{xor-false, xor-assoc, taut1, taut3}
 use Rattle.model.specs.Gate.{fitsKind}
-use Rattle.model.specs.Evaluate.{allOf, anyOf, oddOf, weight, at, valueOf}
+use Rattle.model.specs.Evaluate.{allOf, anyOf, oddOf, at, valueOf}
 use Rattle.signal_values.specs.Signals.{isOdd, onesTo}
 use Rattle.signal_values.proofs.Bounds.{ones-most}
 use Rattle.values.specs.Values.{onesValue}

@@ -1,6 +1,6 @@
 -- A gate's value by the values of a cycle that stand in an area, and what a node shows.
 use Prim.Native.Nat.{ℕ, _+_, _*_, _^_}
-use mathlib.Core.Bool.{Bool, true, false, not, cond}
+use mathlib.Core.Bool.{Bool, false, not, cond}
 use mathlib.Core.List.{List}
 use lib.Dec.{eqb, ltb}
 use Rattle.kinds.specs.Kinds.{kindOf}

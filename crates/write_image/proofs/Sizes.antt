@@ -1,25 +1,21 @@
 -- The words of the records of an area, and how many there are.
-use mathlib.Core.Path.{_≡_, refl, sym, ap, ap₂, _∙_}
+use mathlib.Core.Path.{_≡_, refl, sym, ap, _∙_}
 use mathlib.Core.Logic.{_≢_}
-use mathlib.Core.Bool.{Bool, true, false, cond}
 use mathlib.Core.List.{List, [], _∷_, _++_, append-assoc, append-nil}
 use Prim.Native.Nat.{ℕ, zero, suc, _+_, _*_, _/_, _%_, _^_, _≤_, _<_}
 use native.Mathlib.Omega.{arith}
 use native.Mathlib.Decide.{ℕ-discrete}
 use lib.ListN.{length, length-append}
-use lib.Dec.{eqb}
 use borrow.Author.Tests.{eq-eqb, ne-eqb}
-use Rattle.model.specs.Gate.{Gate, isLut, fanin, size}
-use Rattle.model.specs.Image.{tableWords, gateWords, gatesWords, bodyWords, netWords, imageOf, bytes}
-use Rattle.model.proofs.Bytes.{length-bytes}
+use Rattle.model.specs.Gate.{Gate}
+use Rattle.model.specs.Image.{tableWords, gateWords, gatesWords, bodyWords, imageOf}
 use Rattle.shape.proofs.Sizes.{gates-length}
 use Rattle.shape.proofs.Written as shape
-use Rattle.tables.specs.Layout.{kindAt, countAt, lowAt, highAt, insAt, gateAt, nodesOf, outputsOf, netOf}
+use Rattle.tables.specs.Layout.{kindAt, countAt, lowAt, highAt, insAt, gateAt, nodesOf, netOf}
 use Rattle.tables.specs.Holding.{networkOf, Held}
 use Rattle.tables.specs.declared.counts.Counts.{Counts}
 use Rattle.tables.proofs.Building.{nodesOf-next, nodesOf-none}
-use Rattle.tables.proofs.Holding.{length-insAt, length-nodesOf, length-outputsOf, fanin-nodesOf, nodes-few, outs-few, total-few}
-use Rattle.shape.proofs.FactoringGrown.{fanin-append}
+use Rattle.tables.proofs.Holding.{length-insAt, length-nodesOf, length-outputsOf, nodes-few, total-few}
 
 -- ---- one record
 

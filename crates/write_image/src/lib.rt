@@ -1,6 +1,6 @@
 // The bytes of a network's image, and the words of a mapping, into buffers that have room for them; and the length of the image.
 ghost use mathlib.Core.Path.{_≡_};
-ghost use Prim.Native.Nat.{ℕ, _+_, _*_, _≤_};
+ghost use Prim.Native.Nat.{_+_, _*_};
 ghost use lib.ListN.{length};
 ghost use Rattle.model.specs.Image.{tableWords, gateWords, gatesWords, netWords, imageOf};
 ghost use Rattle.model.specs.Answers.{laidOver};

@@ -1,6 +1,5 @@
 -- `load_body`: each need by its law.
-use Prim.Native.Nat.{_≤_, _-_}
-use Rattle.load_body.specs.Loading.{Loading}
+use Prim.Native.Nat.{_-_}
 use Rattle.load_body.proofs.Loads.{loads}
 use borrow.Author.Needs.{needs}
 use Rattle.load_body.proofs.load_body.Statement.{statement}

@@ -1,5 +1,5 @@
 -- `same_inputs`: what its loop keeps, and each need by its law.
-use Prim.Native.Nat.{ℕ, _≤_, _-_, zero-le}
+use Prim.Native.Nat.{_≤_, _-_, zero-le}
 use mathlib.Core.Path.{_≡_, sym, _∙_}
 use mathlib.Core.Bool.{true}
 use Rattle.same_gate.specs.Listed.{sameIns}

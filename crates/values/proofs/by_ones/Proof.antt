@@ -2,7 +2,7 @@
 use mathlib.Core.Path.{refl, ap}
 use mathlib.Core.Bool.{not}
 use lib.Dec.{ltb}
-use Rattle.kinds.specs.declared.Kind.the-variants.{And3, Xor3, Maj, Mux, AndN, OrN, NandN, NorN, XorN, XnorN, Dff, Lut}
+use Rattle.kinds.specs.declared.Kind.the-variants.{And3, Xor3, Maj, Mux, AndN, NandN, NorN, XorN, XnorN, Dff, Lut}
 use Rattle.signal_values.proofs.Bits.{bit-odd}
 use Rattle.values.proofs.Deciding.{same-kind, or-value, decides}
 use borrow.Author.Needs.{needs}

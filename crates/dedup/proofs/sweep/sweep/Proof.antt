@@ -1,6 +1,6 @@
 -- `sweep`: what its loop keeps, and each need by its law.
 use borrow.Author.Needs.{needs}
-use Prim.Native.Nat.{ℕ, _≤_, _-_, zero-le}
+use Prim.Native.Nat.{_≤_, _-_, zero-le}
 use mathlib.Core.Path.{_≡_, refl, ap, _∙_}
 use lib.ListN.{length}
 use Rattle.kinds.specs.Kinds.{isFlipFlop}

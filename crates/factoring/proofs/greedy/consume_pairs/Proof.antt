@@ -1,6 +1,5 @@
 -- `consume_pairs`: what its loop keeps, and each need by its law.
 use Prim.Native.Nat.{_-_}
-use mathlib.Core.Path.{_∙_}
 use Rattle.laws.proofs.Turns.{turn-less}
 use Rattle.factoring.proofs.Turns.{Greedy, at-count, ready-one, pairs-start, pairs-end, pairs-full, pairs-next}
 use Rattle.factoring.proofs.greedy.consume_pairs.Statement.{statement}

@@ -1,6 +1,5 @@
 -- `join_gate`: what its loop keeps, and each need by its law.
 use Prim.Native.Nat.{_-_}
-use mathlib.Core.Path.{_∙_}
 use Rattle.factoring.proofs.Rounds.{Rounded, round-start, round-gate, round-end, round-full, round-ready, round-next, round-less}
 use Rattle.factoring.proofs.join.join_gate.Statement.{statement}
 use Rattle.factoring.proofs.join.join_gate.Tie as tie

@@ -1,5 +1,5 @@
 -- `join_two`: each need by its law.
-use mathlib.Core.Path.{refl, _∙_}
+use mathlib.Core.Path.{_∙_}
 use Rattle.factoring.proofs.Joining.{two-double, two-place, two-behind, two-node, two-sum, two-first, two-sig, two-done}
 use Rattle.factoring.proofs.join.join_two.Statement.{statement}
 use Rattle.factoring.proofs.join.join_two.Tie as tie

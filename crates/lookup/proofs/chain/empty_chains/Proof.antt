@@ -1,5 +1,5 @@
 -- `empty_chains`: what its loop keeps, and each need by its law.
-use Prim.Native.Nat.{ℕ, _≤_, _-_}
+use Prim.Native.Nat.{_≤_, _-_}
 use mathlib.Core.Path.{_≡_}
 use lib.ListN.{length}
 use Rattle.lookup.specs.Chains.{emptied}

@@ -1,5 +1,5 @@
 -- `stir_inputs`: what its loop keeps, and each need by its law.
-use Prim.Native.Nat.{ℕ, _≤_, _<_, _-_}
+use Prim.Native.Nat.{_≤_, _<_, _-_}
 use mathlib.Core.Path.{_≡_}
 use Rattle.tables.specs.Layout.{cell}
 use Rattle.same_gate.specs.Listed.{listBase}

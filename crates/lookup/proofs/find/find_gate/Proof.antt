@@ -1,5 +1,4 @@
 -- `find_gate`: what its loop keeps, and each need by its law.
-use Prim.Native.Nat.{ℕ}
 use mathlib.Core.Path.{refl}
 use native.Mathlib.Omega.{arith}
 use Rattle.same_gate.specs.Listed.{listed}
