@@ -1,5 +1,4 @@
 // What is lent to an entry: filled with a pattern before, and compared afterwards with what is recorded and the pattern behind it.
-ghost use Prim.Native.Nat.{_<_};
 use words::nth;
 
 // The pattern.

@@ -1,10 +1,10 @@
 -- Texts at the front of a lent buffer: what each function met, and what it shows.
-use mathlib.Core.Path.{_≡_, sym, ap, _∙_}
+use mathlib.Core.Path.{_≡_, sym, ap, _∙_, subst}
 use Prim.Native.Nat.{ℕ, _+_, _-_, _≤_, _<_, _^_}
 use native.Mathlib.Omega.{arith}
 use mathlib.Core.Bool.{_&&_}
 use mathlib.Core.List.{List, [], _∷_, _++_, append-assoc}
-use lib.ListN.{length, take, drop, length-append}
+use lib.ListN.{length, take, drop, length-append, replicate, length-replicate}
 use lib.Seq.{take-at}
 use lib.Dec.{eqb, leb}
 use borrow.Author.Tests.{lt-ltb, le-ltb}
@@ -14,11 +14,12 @@ use Rattle.laws.proofs.Choices.{by-bool}
 use Rattle.model.specs.Answers.{Outcome, refused, written, evaluated, answerOf, resultAfter, laidOver, areasShort, inAreas, inRoom, unless, Kept}
 use Rattle.model.specs.Image.{refusalOf, netOf}
 use Rattle.model.specs.Listing.{ascii, decimal, line, spaced, listingOf}
+use Rattle.tables.specs.Layout.{netSize}
 use Rattle.tables.specs.Working.{Answered}
-use Rattle.text_parts.specs.Putting.{Put}
+use Rattle.listing.specs.Putting.{Put}
 use Rattle.listing.proofs.Decimals.{decimal-short}
-use Rattle.text_parts.proofs.Puts.{put-then, put-as, putText-laid}
-use Rattle.share.specs.Texts.{refusedText, listOutcome, textFor, printedFor, printedOf, Shown}
+use Rattle.listing.proofs.Puts.{put-then, put-as, putText-laid}
+use Rattle.share.specs.Texts.{refusedText, listOutcome, textFor, printedFor, printedOf, Shown, Lent}
 
 -- ---- refuse
 
@@ -42,6 +43,18 @@ refused-shown n {b} {b1} {b2} {b3} {p} {q} {r} h l m P1 P2 P3 =
       end = omega (arith, P .behind);
       room = omega arith;
     }
+
+-- ---- the program's own buffers
+
+pub lent-zeros : (m n : ℕ) → netSize ≤ m → 32768 ≤ n → Lent (replicate m 0) (replicate n 0)
+lent-zeros m n h k = record {
+  long = subst (λ (x : ℕ). netSize ≤ x) (sym (length-replicate {0} {A = ℕ} m 0)) h;
+  room = subst (λ (x : ℕ). 32768 ≤ x) (sym (length-replicate {0} {A = ℕ} n 0)) k;
+}
+
+-- a text is within the buffer that it was shown in
+pub shown-within : (text b b′ : List ℕ) (r n : ℕ) → Shown text b b′ r → length b ≡ n → length b′ ≡ n → r ≤ length b′
+shown-within text b b′ r n S e f = let x = S .end in let y = S .room in omega arith
 
 -- ---- an outcome that is no cycle's
 
