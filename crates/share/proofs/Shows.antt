@@ -18,7 +18,7 @@ use Rattle.tables.specs.Layout.{netSize}
 use Rattle.tables.specs.Working.{Answered}
 use Rattle.listing.specs.Putting.{Put}
 use Rattle.listing.proofs.Decimals.{decimal-short}
-use Rattle.listing.proofs.Puts.{put-then, put-as, putText-laid}
+use Rattle.text_parts.proofs.Puts.{put-then, put-as, putText-laid}
 use Rattle.share.specs.Texts.{refusedText, listOutcome, textFor, printedFor, printedOf, Shown, Lent}
 
 -- ---- refuse
