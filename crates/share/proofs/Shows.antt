@@ -16,7 +16,7 @@ use Rattle.model.specs.Image.{refusalOf, netOf}
 use Rattle.model.specs.Listing.{ascii, decimal, line, spaced, listingOf}
 use Rattle.tables.specs.Layout.{netSize}
 use Rattle.tables.specs.Working.{Answered}
-use Rattle.listing.specs.Putting.{Put}
+use Rattle.text_parts.specs.Putting.{Put}
 use Rattle.listing.proofs.Decimals.{decimal-short}
 use Rattle.text_parts.proofs.Puts.{put-then, put-as, putText-laid}
 use Rattle.share.specs.Texts.{refusedText, listOutcome, textFor, printedFor, printedOf, Shown, Lent}
