@@ -1,40 +1,24 @@
 // Document 01's hand cases: in a line `case: entry: image` the image is its words in decimal, a space between two; commas are only
 // for the reader. Printed is the line, and for the image what came out: `refused` and the number, the words of the image that was
 // written, or the output of four cycles.
-ghost use Prim.Native.Nat.{_≤_, _<_};
-ghost use lib.ListN.{length};
-use crate::buffers::slice;
+ghost use Prim.Native.Nat.{_≤_};
 use crate::entries::CODES;
 use crate::entries::EVALUATE;
 use crate::entries::name;
-use crate::recorded::HEAD;
 use crate::replaying::lend;
-use crate::telling::print;
-use crate::telling::print_number;
 use answers::Answer;
 use bytes::scan::find;
 use libc::STDOUT_FILENO;
-use words::nth;
-use words::put_word;
+use recorded::buffers::slice;
+use recorded::hand::behind_colon;
+use recorded::hand::put;
+use recorded::hand::put_image;
+use recorded::telling::print;
+use recorded::telling::print_image;
+use recorded::telling::print_number;
 
 // The flattening limit of document 01's example.
 const LIMIT: u32 = 64;
-
-fn print_words(image: &[u8]) {
-    let mut i: usize = 0;
-    while i < image.len() / 4 {
-        print_number(STDOUT_FILENO, b" ", nth(image, i) as u64);
-        i += 1;
-    }
-}
-
-// An image of more than 32 words only by its length.
-fn print_image(image: &[u8]) {
-    if image.len() <= 128 {
-        return print_words(image);
-    }
-    print_number(STDOUT_FILENO, b" accepted, bytes ", image.len() as u64);
-}
 
 // The bytes of out that are printed: a cycle's one output is its first word.
 fn printed_len(entry: u32, len: usize) -> usize {
@@ -78,57 +62,6 @@ fn show(entry: u32, record: &[u8]) {
     print(STDOUT_FILENO, b"\n");
 }
 
-// A number with one digit more; as it is where c is none.
-fn with_digit(n: u64, c: u8) -> u64
-    requires { ⌜ n < 4294967296 ⌝ }
-    ensures { λ r. ⌜ r < 4294967296 ⌝ }
-{
-    if c < b'0' {
-        return n;
-    }
-    if b'9' < c {
-        return n;
-    }
-    (10 * n + (c - b'0') as u64) % 4294967296
-}
-
-fn number(digits: &[u8]) -> u32 {
-    let mut n: u64 = 0;
-    let mut i: usize = 0;
-    while i < digits.len() {
-        n = with_digit(n, digits[i]);
-        i += 1;
-    }
-    n as u32
-}
-
-// A word at `at`, where there is room; answers the place behind it.
-fn put(dst: &mut [u8], at: usize, w: u32) -> usize
-    requires { ⌜ at ≤ length (now dst) ⌝ }
-    ensures { λ r. ⌜ (at ≤ r) × (r ≤ length (now (dst .entry))) ⌝ }
-{
-    if dst.len() - at < 4 {
-        return at;
-    }
-    put_word(dst, at, w);
-    at + 4
-}
-
-// The words of a text, a space before each, behind the head of a record; answers the place behind them.
-fn put_image(dst: &mut [u8], text: &[u8]) -> usize
-    requires { ⌜ 64 ≤ length (now dst) ⌝ }
-    ensures { λ r. ⌜ (64 ≤ r) × (r ≤ length (now (dst .entry))) ⌝ }
-{
-    let mut at = HEAD;
-    let mut space: usize = 0;
-    while space < text.len() {
-        let from = space + 1;
-        space = find(text, from, text.len(), b' ');
-        at = put(dst, at, number(&text[from..space]));
-    }
-    at
-}
-
 // Shows the entry on the image that a text has, lent all that `show` has.
 fn show_image(entry: u32, text: &[u8]) {
     let mut record = [255u8; 4096];
@@ -136,21 +69,6 @@ fn show_image(entry: u32, text: &[u8]) {
     put(&mut record, 0, end as u32 - 64);
     put(&mut record, 4, LIMIT);
     show(entry, &record);
-}
-
-// The place behind the last colon of the first n bytes; 0 where there is none.
-fn behind_colon(line: &[u8], n: usize) -> usize
-    requires { ⌜ n ≤ length (now line) ⌝ }
-    ensures { λ r. ⌜ r ≤ n ⌝ }
-{
-    let mut i = n;
-    while 0 < i {
-        if line[i - 1] == b':' {
-            return i;
-        }
-        i -= 1;
-    }
-    0
 }
 
 // The entry whose name a text begins with, behind a space.

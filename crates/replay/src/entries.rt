@@ -1,11 +1,5 @@
 // The entries: each has its code, its file's name, its arm or test here, and its line in the file `stdout`, in the order of the codes.
 ghost use Prim.Native.Nat.{_≤_};
-use crate::buffers::slice;
-use crate::recorded::IMAGE;
-use crate::recorded::INPUTS;
-use crate::recorded::K;
-use crate::recorded::part;
-use crate::recorded::word;
 use answers::Answer;
 use evaluation::evaluate;
 use lanternlean::read::read;
@@ -15,6 +9,12 @@ use network::canonical::canonical;
 use network::cleaning::cleanup;
 use network::deduplicate::dedup;
 use network::sort::sort;
+use recorded::IMAGE;
+use recorded::INPUTS;
+use recorded::K;
+use recorded::buffers::slice;
+use recorded::part;
+use recorded::word;
 use sharing::factor::factor;
 use sharing::flattening::flatten;
 use sharing::share::share;

@@ -4,13 +4,10 @@ ghost use mathlib.Core.Path.{_≡_};
 ghost use lib.ListN.{length};
 use libc::STDIN_FILENO;
 
-mod buffers;
 mod cases;
 mod entries;
 mod files;
-mod recorded;
 mod replaying;
-mod telling;
 
 // A megabyte, more than the longest file has.
 fn room() -> [u8; 1048576]

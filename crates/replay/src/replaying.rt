@@ -1,26 +1,26 @@
 // One record: the entry run on buffers as long as those that were lent, and all that it left compared.
 ghost use Prim.Native.Nat.{_≤_};
-use crate::buffers::BYTE;
-use crate::buffers::WORD;
-use crate::buffers::holds;
-use crate::buffers::holds_words;
-use crate::buffers::is_left;
-use crate::buffers::put;
-use crate::buffers::slice;
 use crate::entries::EVALUATE;
 use crate::entries::part_start;
 use crate::entries::run;
-use crate::recorded;
-use crate::recorded::part;
-use crate::recorded::size;
-use crate::recorded::state_part;
-use crate::recorded::word;
-use crate::telling::print;
-use crate::telling::print_number;
 use answers::Answer;
 use answers::length;
 use answers::number;
 use libc::STDERR_FILENO;
+use recorded::buffers::BYTE;
+use recorded::buffers::WORD;
+use recorded::buffers::put;
+use recorded::comparing;
+use recorded::comparing::expect;
+use recorded::comparing::has;
+use recorded::comparing::has_area;
+use recorded::comparing::has_mapping;
+use recorded::part;
+use recorded::size;
+use recorded::state_part;
+use recorded::telling::print;
+use recorded::telling::print_number;
+use recorded::word;
 
 // How much was lent of a buffer of len elements: word k, which is no more than that in a record within bounds.
 fn lent(record: &[u8], k: usize, len: usize) -> usize
@@ -75,58 +75,19 @@ pub fn lend(
     )
 }
 
-// What is compared, as `expect` names it.
-const NUMBER: usize = 0;
-
-const LENGTH: usize = 1;
-
-const START: usize = 2;
-
-const OUT: usize = 3;
-
-const MAPPING: usize = 4;
-
-const STATE: usize = 5;
-
-const FIRST: usize = 6;
-
-const SECOND: usize = 7;
-
-// Passes a comparison on, and names on standard error what does not hold.
-fn expect(what: usize, is: bool) -> bool {
-    if !is {
-        let names = b"number  length  start   result  mapping state   area 1  area 2  ";
-        print(STDERR_FILENO, slice(names, 8 * (what % 8), 8));
-    }
-    is
-}
-
 fn is_answer(entry: u32, record: &[u8], r: Answer) -> bool {
-    expect(NUMBER, number(r) == word(record, recorded::NUMBER))
-        & expect(LENGTH, length(r) == size(record, recorded::LENGTH))
+    expect(
+        comparing::NUMBER,
+        number(r) == word(record, recorded::NUMBER),
+    )
         & expect(
-            START,
+            comparing::LENGTH,
+            length(r) == size(record, recorded::LENGTH),
+        )
+        & expect(
+            comparing::START,
             part_start(entry, record) == size(record, recorded::START),
         )
-}
-
-// Whether buf has a part of the record, and the pattern behind it.
-fn has(what: usize, record: &[u8], k: usize, buf: &[u8]) -> bool
-    requires { ⌜ k ≤ 7 ⌝ }
-{
-    expect(what, holds(buf, part(record, k)))
-}
-
-fn has_mapping(record: &[u8], map: &[u32]) -> bool {
-    expect(MAPPING, holds_words(map, part(record, recorded::MAPPING)))
-}
-
-// Whether an area, lent as word k of the record says, is as the entry leaves it.
-fn has_area(what: usize, record: &[u8], k: usize, area: &[u32]) -> bool {
-    expect(
-        what,
-        is_left(area, size(record, k), word(record, recorded::NUMBER)),
-    )
 }
 
 // Whether the entry does what is recorded. Each buffer has more elements than are lent at most, to be found untouched.
@@ -147,11 +108,11 @@ fn is_same(entry: u32, record: &[u8]) -> bool {
         &mut b,
     );
     is_answer(entry, record, r)
-        & has(OUT, record, out_part(entry), &out)
+        & has(comparing::OUT, record, out_part(entry), &out)
         & has_mapping(record, &map)
-        & has(STATE, record, state_part(record), &state)
-        & has_area(FIRST, record, recorded::FIRST, &a)
-        & has_area(SECOND, record, recorded::SECOND, &b)
+        & has(comparing::STATE, record, state_part(record), &state)
+        & has_area(comparing::FIRST, record, recorded::FIRST, &a)
+        & has_area(comparing::SECOND, record, recorded::SECOND, &b)
 }
 
 // Replays a record, number k of its file; answers how many differ, 0 or 1.

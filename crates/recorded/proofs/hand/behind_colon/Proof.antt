@@ -1,8 +1,8 @@
 -- `behind_colon`: what its loop keeps, and each need by its law.
 use Prim.Native.Nat.{_≤_}
 use borrow.Author.Needs.{needs}
-use Rattle.replay.proofs.cases.behind_colon.Statement.{statement}
-use Rattle.replay.proofs.cases.behind_colon.Tie as tie
+use Rattle.recorded.proofs.hand.behind_colon.Statement.{statement}
+use Rattle.recorded.proofs.hand.behind_colon.Tie as tie
 
 abbrev Inv-loop : tie.InvT-loop
 Inv-loop line n i₀ i = i ≤ n

@@ -1,8 +1,8 @@
 -- `start`: what its loop keeps, and each need by its law.
 use Prim.Native.Nat.{_+_, _*_, _-_, _≤_}
 use borrow.Author.Needs.{needs}
-use Rattle.replay.proofs.recorded.start.Statement.{statement}
-use Rattle.replay.proofs.recorded.start.Tie as tie
+use Rattle.recorded.proofs.start.Statement.{statement}
+use Rattle.recorded.proofs.start.Tie as tie
 
 abbrev Inv-loop : tie.InvT-loop
 Inv-loop bytes part at₀ k₀ at k = (k ≤ part) × (at ≤ 64 + k * 17179869188)

@@ -3,8 +3,8 @@ use Prim.Native.Nat.{_-_, _≤_}
 use borrow.Author.Needs.{needs}
 use lib.ListN.{length}
 use mathlib.Core.Path.{_≡_}
-use Rattle.replay.proofs.cases.put_image.Statement.{statement}
-use Rattle.replay.proofs.cases.put_image.Tie as tie
+use Rattle.recorded.proofs.hand.put_image.Statement.{statement}
+use Rattle.recorded.proofs.hand.put_image.Tie as tie
 
 abbrev Inv-loop : tie.InvT-loop
 Inv-loop dst₀ text at₀ space₀ dst at space = (64 ≤ at) × (at ≤ length dst) × (length dst ≡ length dst₀)

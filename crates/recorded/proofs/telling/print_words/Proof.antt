@@ -2,8 +2,8 @@
 use Prim.Native.Nat.{_-_, _/_}
 use borrow.Author.Needs.{needs}
 use lib.ListN.{length}
-use Rattle.replay.proofs.cases.print_words.Statement.{statement}
-use Rattle.replay.proofs.cases.print_words.Tie as tie
+use Rattle.recorded.proofs.telling.print_words.Statement.{statement}
+use Rattle.recorded.proofs.telling.print_words.Tie as tie
 
 abbrev Inv-loop : tie.InvT-loop
 Inv-loop image i₀ t3 i = Unit {0}

@@ -4,6 +4,12 @@ ghost use lib.ListN.{length};
 use crate::buffers::slice;
 use words::nth;
 
+pub mod buffers;
+pub mod comparing;
+pub mod hand;
+pub mod heads;
+pub mod telling;
+
 // The words of the head that say what was lent, the number k or limit first ..
 pub const K: usize = 1;
 
