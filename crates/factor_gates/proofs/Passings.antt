@@ -22,7 +22,7 @@ use Rattle.kinds.specs.declared.Family.{Family}
 use Rattle.tables.specs.declared.counts.Counts.{Counts}
 use Rattle.factoring.specs.declared.greedy.Built.{Built}
 use Rattle.factoring.specs.declared.greedy.Built.the-variants.{To, Full}
-use Rattle.factor_gates.specs.declared.pass.Pass.the-variants.{Grown, Pairs, Room}
+use Rattle.stages.specs.declared.Pass.the-variants.{Grown, Pairs, Room}
 
 places-is : (f : Family) (from : List ℕ) (c : Counts) → pairPlaces f (networkOf from c) ≡ placesOf (sharedSignals (listsIn f from (c .nodes)))
 unfolding pairPlaces networkOf netOf listsIn

@@ -1,4 +1,4 @@
--- The answer of one pass. `Pass` is the enum of src/pass.rt.
+-- The answer of one pass. `Pass` is the enum of `stages`.
 use Prim.Native.Nat.{ℕ}
 use mathlib.Core.Path.{_≡_}
 use mathlib.Core.Bool.{cond}
@@ -8,8 +8,8 @@ use Rattle.growth.specs.Growing.{countsOf}
 use Rattle.model.specs.Gate.{Net}
 use Rattle.model.specs.Sharing.{grown, passRefusal}
 use Rattle.tables.specs.Holding.{Holds}
-use Rattle.factor_gates.specs.declared.pass.Pass.{Pass}
-use Rattle.factor_gates.specs.declared.pass.Pass.the-variants.{Grown, Pairs, Room}
+use Rattle.stages.specs.declared.Pass.{Pass}
+use Rattle.stages.specs.declared.Pass.the-variants.{Grown, Pairs, Room}
 use Rattle.kinds.specs.declared.Family.{Family}
 
 -- document 01's number of an answer

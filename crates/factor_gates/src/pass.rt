@@ -11,15 +11,9 @@ use factoring_run::run;
 use growth::grow::grow;
 use kinds::Family;
 use room::room_for;
+use stages::Pass;
 use tables::counts::Counts;
 use uses::load::pair_places;
-
-// The answer of a pass: the grown network's counts, or the refusals 11 and 12.
-pub enum Pass {
-    Grown(Counts),
-    Pairs,
-    Room,
-}
 
 // The lists run, and the grown network where there is room for it: else 12.
 fn grow_shared(from: &[u32], to: &mut [u32], counts: Counts, f: Family, g: usize) -> Pass

@@ -18,7 +18,7 @@ use Rattle.tables.specs.declared.counts.Counts.{Counts}
 use Rattle.growth.specs.Growing.{countsOf}
 use Rattle.factoring_run.specs.Running.{Asked}
 use Rattle.factor_gates.specs.Passing.{Passed, passOf}
-use Rattle.factor_gates.specs.declared.pass.Pass.{Pass}
+use Rattle.stages.specs.declared.Pass.{Pass}
 use Rattle.stages.specs.Stages.{Workable, Orderable, Staged, stageOf, stageOfPass}
 use Rattle.stages.specs.declared.Stage.{Stage}
 use Rattle.stages.specs.declared.Stage.the-variants.{Refused, Network}

@@ -1,2 +1,3 @@
 pub mod Passing
 pub mod Choosing
+pub mod Sharing

@@ -13,6 +13,7 @@ use tables::counts::Counts;
 
 pub mod deliver;
 pub mod passes;
+pub mod share_logic;
 
 // Which entry, with the flattening limit where there is one.
 pub enum Task {

@@ -6,11 +6,11 @@ ghost use Rattle.tables.specs.Holding.{networkOf};
 ghost use Rattle.tables.specs.Working.{Answered};
 ghost use Rattle.sharing_work.specs.Works.{flattenPass, factorPass, sharePass};
 use crate::deliver::deliver;
+use crate::share_logic::share_logic;
 use answers::Answer;
 use factor_nary::factor_nary;
+use flatten_nary::flatten_nary;
 use repeats::repeats_refusal;
-use share_logic::flatten_nary::flatten_nary;
-use share_logic::share_logic;
 use tables::counts::Counts;
 
 pub fn flatten(a: &mut [u32], b: &mut [u32], c: Counts, limit: u32, out: &mut [u8]) -> Answer

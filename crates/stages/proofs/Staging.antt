@@ -13,8 +13,8 @@ use Rattle.tables.specs.Holding.{networkOf}
 use Rattle.tables.specs.declared.counts.Counts.{Counts}
 use Rattle.tables.proofs.Holding.{size-network, length-outputsOf}
 use Rattle.growth.specs.Growing.{countsOf}
-use Rattle.factor_gates.specs.declared.pass.Pass.{Pass}
-use Rattle.factor_gates.specs.declared.pass.Pass.the-variants.{Grown, Pairs, Room}
+use Rattle.stages.specs.declared.Pass.{Pass}
+use Rattle.stages.specs.declared.Pass.the-variants.{Grown, Pairs, Room}
 use Rattle.stages.specs.Stages.{Workable, Left, Staged, stageOf, stageOfPass, firstMet}
 use Rattle.stages.specs.declared.Stage.{Stage}
 use Rattle.stages.specs.declared.Stage.the-variants.{Refused, Network}

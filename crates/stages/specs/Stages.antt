@@ -11,8 +11,8 @@ use Rattle.model.specs.Sharing.{flattenedInputs, flattenNary, factorRefusal}
 use Rattle.tables.specs.Holding.{networkOf, Held, Holds}
 use Rattle.tables.specs.declared.counts.Counts.{Counts}
 use Rattle.growth.specs.Growing.{countsOf}
-use Rattle.factor_gates.specs.declared.pass.Pass.{Pass}
-use Rattle.factor_gates.specs.declared.pass.Pass.the-variants.{Grown, Pairs, Room}
+use Rattle.stages.specs.declared.Pass.{Pass}
+use Rattle.stages.specs.declared.Pass.the-variants.{Grown, Pairs, Room}
 use Rattle.stages.specs.declared.Stage.{Stage}
 use Rattle.stages.specs.declared.Stage.the-variants.{Refused, Network}
 

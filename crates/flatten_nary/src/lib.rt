@@ -1,4 +1,4 @@
-// flatten_nary: every And and Xor merged with what it names, then cleanup, then canonical; or 10.
+// share_logic.rs, flatten_nary: every And and Xor merged with what it names, then cleanup, then canonical; or 10.
 ghost use Rattle.model.specs.Network.{canonical, cleanup};
 ghost use Rattle.model.specs.Sharing.{flattenNary};
 ghost use Rattle.tables.specs.Holding.{networkOf};

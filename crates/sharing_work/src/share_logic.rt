@@ -1,4 +1,5 @@
-// share_logic.rs over two areas. A stage reads the network in one area, works in both, and answers its refusal or the network's counts.
+// share_logic.rs, share_logic over two areas. A stage reads the network in one area, works in both, and answers its refusal or the
+// network's counts.
 ghost use Rattle.model.specs.Sharing.{shareLogic};
 ghost use Rattle.tables.specs.Holding.{networkOf};
 ghost use Rattle.stages.specs.Stages.{Workable, Staged, shareRefusal};
@@ -6,8 +7,6 @@ use factor_nary::factor_nary;
 use flatten_nary::flatten_nary;
 use stages::Stage;
 use tables::counts::Counts;
-
-pub mod flatten_nary;
 
 // share_logic: flatten, then factor; the network in `from` into `to`, or 10, 11 or 12.
 pub fn share_logic(from: &mut [u32], to: &mut [u32], c: Counts, limit: u32) -> Stage

@@ -1,4 +1,4 @@
--- flatten_nary and share_logic: what the gates' function answered, what is left by cleanup and canonical, and factor_nary after it.
+-- flatten_nary: what the gates' function answered, and what is left by cleanup and canonical.
 use mathlib.Core.Path.{_≡_, refl, sym, _∙_}
 use borrow.Author.Tests.{ltb-false}
 use Prim.Native.Nat.{ℕ, _≤_}
@@ -7,19 +7,17 @@ use mathlib.Core.Bool.{Bool, true, false, cond}
 use mathlib.Core.List.{List}
 use lib.ListN.{length}
 use lib.Dec.{ltb}
-use Rattle.model.specs.Gate.{Net}
 use Rattle.model.specs.Network.{canonical, cleanup}
-use Rattle.model.specs.Sharing.{flattenedInputs, flattenNary, factorNary, factorRefusal, shareLogic}
+use Rattle.model.specs.Sharing.{flattenedInputs, flattenNary}
 use Rattle.shape.proofs.Flatten.{merged-sorted}
 use Rattle.tables.specs.Holding.{networkOf}
 use Rattle.tables.specs.declared.counts.Counts.{Counts}
 use Rattle.flatten.specs.Flattening.{Mergeable, Merged}
 use Rattle.flatten.specs.declared.Merging.{Merging}
 use Rattle.flatten.specs.declared.Merging.the-variants.{Fits, Full}
-use Rattle.stages.specs.Stages.{Workable, Left, Staged, flatRefusal, shareRefusal}
-use Rattle.stages.specs.declared.Stage.{Stage}
+use Rattle.stages.specs.Stages.{Workable, Left, Staged, flatRefusal}
 use Rattle.stages.specs.declared.Stage.the-variants.{Refused, Network}
-use Rattle.stages.proofs.Staging.{staged-left, staged-refused, next-workable, next-refused, next-leaves}
+use Rattle.stages.proofs.Staging.{staged-left, staged-refused}
 use Rattle.shape.proofs.Cleanup.{cleanup-sorted}
 use Rattle.cleanup.specs.Marking.{Cleanable, Cleaned}
 use Rattle.dedup.specs.States.{Dedupable, Deduped}
@@ -83,16 +81,4 @@ module _ (from to : List ℕ) (c : Counts) (W : Workable from to c) where
       unfolding flatRefusal flattenNary
       merge-left l r L = rw within (staged-left _ l r (rw (M .holds few .net) at L))
 
--- ---- share_logic
-
-module _ (N : Net) (limit : ℕ) (m : List ℕ) (x : Stage) (S : Staged (flatRefusal N limit) (flattenNary N limit) m x) where
-  pub share-refused : (n : ℕ) (l : List ℕ) → x ≡ Refused n → Staged (shareRefusal N limit) (shareLogic N limit) l (Refused n)
-  unfolding shareRefusal shareLogic
-  share-refused n l q = next-refused _ _ m x S n (factorRefusal (flattenNary N limit)) (factorNary (flattenNary N limit)) l q
-
-  pub share-left : (d : Counts) → x ≡ Network d → (l : List ℕ) (s : Stage)
-      → Staged (factorRefusal (networkOf m d)) (factorNary (networkOf m d)) l s → Staged (shareRefusal N limit) (shareLogic N limit) l s
-  unfolding shareRefusal shareLogic
-  share-left d q l s T = next-leaves _ _ m x S d q factorRefusal factorNary l s T
-
-pub ruleset shares = (clean-asks, clean-next, clean-left, merge-asks, merge-full, merge-next, merge-left, next-workable, share-refused, share-left)
+pub ruleset flattens = (clean-asks, clean-next, clean-left, merge-asks, merge-full, merge-next, merge-left)

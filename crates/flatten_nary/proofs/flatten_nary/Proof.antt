@@ -1,8 +1,8 @@
 -- `flatten_nary`: each need by its law.
 use borrow.Author.Needs.{needs}
-use Rattle.share_logic.proofs.Sharing.{shares}
-use Rattle.share_logic.proofs.flatten_nary.flatten_nary.Statement.{statement}
-use Rattle.share_logic.proofs.flatten_nary.flatten_nary.Tie as tie
+use Rattle.flatten_nary.proofs.Flattening.{flattens}
+use Rattle.flatten_nary.proofs.flatten_nary.Statement.{statement}
+use Rattle.flatten_nary.proofs.flatten_nary.Tie as tie
 
 pub flatten-nary-spec : {M : Type 1} → statement M
 flatten-nary-spec =
@@ -11,10 +11,10 @@ flatten-nary-spec =
     (λ c κs. search needs)
     (λ c. search needs)
     (λ c. search needs)
-    (λ c κs. search (needs, shares))
+    (λ c κs. search (needs, flattens))
     (λ c. search needs)
     (λ c. search needs)
-    (λ c. search (needs, shares))
+    (λ c. search (needs, flattens))
     (λ c. search needs)
     (λ c. search needs)
-    (λ c. search (needs, shares)))
+    (λ c. search (needs, flattens)))

@@ -1,8 +1,8 @@
 -- `share_logic`: each need by its law.
 use borrow.Author.Needs.{needs}
-use Rattle.share_logic.proofs.Sharing.{shares}
-use Rattle.share_logic.proofs.share_logic.Statement.{statement}
-use Rattle.share_logic.proofs.share_logic.Tie as tie
+use Rattle.sharing_work.proofs.Sharing.{shares}
+use Rattle.sharing_work.proofs.share_logic.share_logic.Statement.{statement}
+use Rattle.sharing_work.proofs.share_logic.share_logic.Tie as tie
 
 pub share-logic-spec : {M : Type 1} → statement M
 share-logic-spec =
