@@ -4,7 +4,7 @@ ghost use Rattle.model.specs.Sharing.{consumeBinaryGates, allPairs};
 ghost use Rattle.uses.specs.Loading.{listsIn};
 ghost use Rattle.factoring.specs.Turned.{Went};
 ghost use Rattle.factoring_run.specs.Running.{Halfway, Finished, Loaded, Asked, Sharable};
-use consume_binary_gates::consume_binary_gates;
+use crate::consume::consume_binary_gates;
 use factoring::greedy::Built;
 use factoring::greedy::consume_pairs;
 use factoring::join::join_gates;
@@ -13,6 +13,8 @@ use kinds::Family;
 use tables::counts::Counts;
 use uses::count::count_signal_usage;
 use uses::load::separate_exclusive_signals;
+
+mod consume;
 
 // consume_pairs: while a pair remains.
 fn share_pairs(to: &mut [u32], g: usize, n: usize, room: usize) -> Built

@@ -1,1 +1,4 @@
+pub mod Passing
+pub mod Choosing
+pub mod Sharing
 pub mod Unique

@@ -3,11 +3,11 @@ ghost use mathlib.Core.Path.{_≡_};
 ghost use mathlib.Core.Bool.{false};
 ghost use lib.ListN.{length};
 ghost use Rattle.model.specs.Answers.{areasShort, inAreas, Kept};
-ghost use Rattle.sharing_work.specs.Works.{imagedWork};
-ghost use Rattle.sharing_work.specs.Tasks.{passOf};
+ghost use Rattle.sharing.specs.Works.{imagedWork};
+ghost use Rattle.sharing.specs.Tasks.{passOf};
+use crate::work::Task;
+use crate::work::work;
 use answers::Answer;
-use sharing_work::Task;
-use sharing_work::work;
 use tables::layout::areas_short;
 use tables::layout::clear_areas;
 

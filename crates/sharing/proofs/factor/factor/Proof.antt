@@ -1,7 +1,7 @@
 -- `factor`: each need by its law.
 use Rattle.model.specs.Entries.{factorOutcome}
-use Rattle.sharing_work.specs.Works.{imagedWork, factorPass}
-use Rattle.sharing_work.specs.Tasks.{passOf}
+use Rattle.sharing.specs.Works.{imagedWork, factorPass}
+use Rattle.sharing.specs.Tasks.{passOf}
 use borrow.Author.Needs.{needs}
 use Rattle.sharing.proofs.factor.factor.Statement.{statement}
 use Rattle.sharing.proofs.factor.factor.Tie as tie

@@ -1,7 +1,7 @@
 -- `flatten`: each need by its law.
 use Rattle.model.specs.Entries.{flattenOutcome}
-use Rattle.sharing_work.specs.Works.{imagedWork, flattenPass}
-use Rattle.sharing_work.specs.Tasks.{passOf}
+use Rattle.sharing.specs.Works.{imagedWork, flattenPass}
+use Rattle.sharing.specs.Tasks.{passOf}
 use Rattle.stages.specs.Stages.{flatRefusal}
 use borrow.Author.Needs.{needs}
 use Rattle.sharing.proofs.flattening.flatten.Statement.{statement}

@@ -1,7 +1,7 @@
 -- `share`: each need by its law.
 use Rattle.model.specs.Entries.{shareOutcome}
-use Rattle.sharing_work.specs.Works.{imagedWork, sharePass}
-use Rattle.sharing_work.specs.Tasks.{passOf}
+use Rattle.sharing.specs.Works.{imagedWork, sharePass}
+use Rattle.sharing.specs.Tasks.{passOf}
 use Rattle.stages.specs.Stages.{flatRefusal}
 use borrow.Author.Needs.{needs}
 use Rattle.sharing.proofs.share.share.Statement.{statement}
