@@ -11,8 +11,9 @@
  * Buffers. Every buffer is a pointer and then its length in elements (bytes for uint8_t, words
  * for uint32_t). No pointer may be null, also where the length is 0. A buffer that is written to
  * (out, map, state, outputs, a, b) must not overlap any other. uint32_t buffers are aligned as C
- * asks. a and b are the two work areas; 16,384 words each are needed, what they hold before does
- * not matter.
+ * asks. a and b are the two work areas; 16,384 words each are needed. What they hold before does
+ * not matter, but they are read, so they must be initialised, as static and calloc'ed ones are;
+ * zeros, as a call leaves them, are fastest.
  *
  * Answers. But for the two record functions the answer has a number in its low 32 bits and a
  * length in its high 32 bits: see LL_NUMBER and LL_LENGTH. Number 0 is acceptance; the length is

@@ -73,7 +73,7 @@ static int differs(int entry, const struct call *c, int shift) {
     } else {
         int untouched = h[NUMBER] == 1;
         size_t an = h[FIRST], bn = h[SECOND];
-        uint32_t *a = untouched ? filled(4 * an) : heap(4 * an), *b = untouched ? filled(4 * bn) : heap(4 * bn);
+        uint32_t *a = filled(4 * an), *b = filled(4 * bn);
         uint8_t *out = filled(h[OUT]), *outputs = filled(h[OUTPUTS]);
         uint32_t *map = filled(4 * (size_t)h[MAP]);
         uint8_t *inputs = copied(c->inputs, h[INPUTS]), *state = copied(c->state, h[STATE]);
