@@ -1,8 +1,10 @@
 // What an entry answers: acceptance with the length of what it wrote, or a refusal with its number.
+#![tactic(auto)]
+
 ghost use Rattle.std.specs.Prelude.{◌≡◌};
 ghost use Rattle.answers.specs.Numbers.{number_of, length_of};
 
-#[derive(Drop)]
+#[derive(Clone, Copy)]
 pub enum Answer {
     // The length in bytes of the image that was written, 0 where none is.
     Accepted(usize),

@@ -1,4 +1,6 @@
 // find_best_pair by a fresh count.
+#![tactic(auto)]
+
 ghost use Rattle.std.specs.Prelude.{◌≡◌, ◌<◌};
 ghost use Rattle.model.specs.Sharing.{top_in, find_best_pair};
 ghost use Rattle.pairs.specs.Lists.{left_at, list_at, lists_of, Laid};
@@ -9,7 +11,7 @@ use count_pair::count_pair;
 use pairs::lists::{left_at, sig_at, start_at};
 use top_pair::{Top, wins};
 
-#[derive(Drop)]
+#[derive(Clone, Copy)]
 pub enum Best {
     Found(u32, u32),
     None,

@@ -1,4 +1,6 @@
 // gates.rs, the whole gate: make_canonical and is_canonical, by kind.
+#![tactic(auto)]
+
 ghost use Rattle.std.specs.Prelude.{◌≡◌, map, take};
 ghost use Rattle.model.specs.Signal.{neg};
 ghost use Rattle.model.specs.Normal.{gate_of, make_and_n, make_canonical, proper, mux_canonical, dff_canonical, is_canonical};

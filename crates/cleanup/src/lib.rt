@@ -1,5 +1,7 @@
 // network.rs, cleanup: what outputs reach, through flip-flops, in old order. `from` is read, `to` is written, and has the order, the
 // mapping, marks and the stack in the tables behind its network.
+#![tactic(auto)]
+
 ghost use Rattle.std.specs.Prelude.{[], ◌∷◌, ◌<◌};
 ghost use Rattle.laws.specs.Lists.{tab};
 ghost use Rattle.model.specs.Network.{vars};

@@ -1,5 +1,7 @@
 // The first 16,384 words of an area set to zero. Most of them mostly are: a block is read first, and written only where it must be, since
 // writing costs more than reading.
+#![tactic(auto)]
+
 ghost use Rattle.std.specs.Prelude.{◌≡◌, ◌+◌, ◌≤◌, length};
 ghost use Rattle.model.specs.Answers.{cleared};
 ghost use Rattle.clearing.specs.Blocks.{joined, zeroed};

@@ -1,4 +1,6 @@
 // A gate's words and the outputs' copied from one network to another, as they are.
+#![tactic(auto)]
+
 ghost use Rattle.std.specs.Prelude.{◌≡◌, ◌+◌, ◌<◌, ◌≤◌, length};
 ghost use Rattle.tables.specs.Layout.{net_size, output_at};
 ghost use Rattle.tables.specs.Building.{put_inputs, put_outputs};

@@ -1,4 +1,6 @@
 // How often each node is named by combinational gates.
+#![tactic(auto)]
+
 ghost use Rattle.std.specs.Prelude.{◌≡◌};
 ghost use Rattle.count_deps.specs.Counting.{count_one, count_ins, count_gate, CanCount, Counting, GateTurn, Counted};
 ghost use Rattle.count_deps.specs.Counting.{Sortable};

@@ -1,4 +1,6 @@
 // The inputs of a visited gate counted down: a node whose count comes to zero is put on the stack.
+#![tactic(auto)]
+
 ghost use Rattle.count_down.specs.Lowering.{CanDown, Downs, down_one, down_ins, Lowered};
 
 use remap::nodes::{is_node, node_of};

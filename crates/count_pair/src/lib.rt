@@ -1,4 +1,6 @@
 // How many gates hold a pair, by a fresh count.
+#![tactic(auto)]
+
 ghost use Rattle.std.specs.Prelude.{◌≡◌, ◌<◌};
 ghost use Rattle.laws.specs.Bools.{bit};
 ghost use Rattle.model.specs.Network.{has};

@@ -1,4 +1,6 @@
 // 14: what a cycle looks for in bytes. Those of the inputs are looked at and put down in one pass.
+#![tactic(auto)]
+
 ghost use Rattle.std.specs.Prelude.{◌≡◌, ◌≤◌, length};
 ghost use Rattle.laws.specs.Lists.{some_below};
 ghost use Rattle.tables.specs.Layout.{net_size};

@@ -1,4 +1,6 @@
 // network.rs, dedup: equal gates merged, with each gate normalized first or looked up as it is.
+#![tactic(auto)]
+
 ghost use Rattle.dedup.specs.States.{Dedupable, Deduped};
 
 use crate::ends::{remap_cells, remap_outputs};

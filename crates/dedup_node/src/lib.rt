@@ -1,4 +1,6 @@
 // One old node of dedup: its gate gathered, normalized and looked up.
+#![tactic(auto)]
+
 ghost use Rattle.std.specs.Prelude.{◌+◌, ◌*◌, ◌^◌, drop};
 ghost use Rattle.tables.specs.Layout.{gate_at};
 ghost use Rattle.gates.specs.Normals.{normal_of};

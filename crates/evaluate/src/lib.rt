@@ -1,4 +1,6 @@
 // One cycle of a network that stands in a work area: its outputs' bytes, and the state bytes of its flip-flops.
+#![tactic(auto)]
+
 ghost use Rattle.std.specs.Prelude.{◌≡◌, length};
 ghost use Rattle.model.specs.Entries.{cycle_outcome};
 ghost use Rattle.tables.specs.Holding.{network_of};

@@ -1,5 +1,7 @@
 // The public entry of evaluation: 1; 2 to 7; 13; 14; or one cycle, by bytes: one for each input, a state byte for each node. A byte for each output is
 // written, and the state bytes of flip-flops only.
+#![tactic(auto)]
+
 ghost use Rattle.std.specs.Prelude.{◌≡◌, false, ◌≤◌, length};
 ghost use Rattle.model.specs.Answers.{areas_short, in_areas, Kept2};
 ghost use Rattle.model.specs.Entries.{evaluate_outcome};

@@ -1,4 +1,6 @@
 // The entries for C and Rust (include/lanternlean.h), each with the entry's own promise. A slice is a pointer and a length in elements.
+#![tactic(auto)]
+
 ghost use Rattle.std.specs.Prelude.{◌≡◌, ◌<◌, length};
 ghost use Rattle.answers.specs.Numbers.{length_of};
 ghost use Rattle.model.specs.Image.{record_of, record_at_of};

@@ -1,4 +1,6 @@
 // share_logic.rs, factor_nary: one pass over the Ands, one over the Xors, each grown, sorted and made canonical; or 11 or 12.
+#![tactic(auto)]
+
 ghost use Rattle.model.specs.Network.{canonical, topo_sort};
 ghost use Rattle.model.specs.Sharing.{factor_gates, factor_nary, factor_refusal, pass_refusal};
 ghost use Rattle.tables.specs.Holding.{network_of};

@@ -9,7 +9,7 @@ use pairs::lists::{left_at, sig_at, start_at};
 use replacing::replace_pair;
 
 // How many new nodes there are, or that there is no room for them.
-#[derive(Drop)]
+#[derive(Clone, Copy)]
 pub enum Built {
     To(usize),
     Full,

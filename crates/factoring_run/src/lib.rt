@@ -1,4 +1,6 @@
 // share_logic.rs, Factoring::run over the gates of a network: their lists loaded, the pairs shared, what was set aside given back, the joins.
+#![tactic(auto)]
+
 ghost use Rattle.pairs.specs.States.{state_of, Ready};
 ghost use Rattle.model.specs.Sharing.{consume_binary_gates, all_pairs};
 ghost use Rattle.uses.specs.Loading.{lists_in};

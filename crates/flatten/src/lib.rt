@@ -1,4 +1,6 @@
 // share_logic.rs, flatten_nary before its cleanup: each And or Xor gate merged with the gates of its family that it names.
+#![tactic(auto)]
+
 ghost use Rattle.tables.specs.Holding.{network_of};
 ghost use Rattle.flatten.specs.Flattening.{Mergeable, Merged, Laid};
 
@@ -8,7 +10,7 @@ use merge_dependencies::Pushed;
 use tables::counts::Counts;
 
 // Whether the gate inputs after flattening fit; if not, refusal 10.
-#[derive(Drop)]
+#[derive(Clone, Copy)]
 pub enum Merging {
     Fits,
     Full,

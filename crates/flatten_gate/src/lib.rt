@@ -1,4 +1,6 @@
 // share_logic.rs, one step of flatten_nary: a gate put behind those in `to`: merged if it is an And or a Xor, else as it is.
+#![tactic(auto)]
+
 ghost use Rattle.model.specs.Sharing.{flat_by, flat_gate};
 ghost use Rattle.tables.specs.Layout.{gate_at};
 ghost use Rattle.merge_dependencies.specs.Pushing.{Merges};

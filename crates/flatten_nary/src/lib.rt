@@ -1,4 +1,6 @@
 // share_logic.rs, flatten_nary: every And and Xor merged with what it names, then cleanup, then canonical; or 10.
+#![tactic(auto)]
+
 ghost use Rattle.model.specs.Network.{canonical, cleanup};
 ghost use Rattle.model.specs.Sharing.{flatten_nary};
 ghost use Rattle.tables.specs.Holding.{network_of};

@@ -1,5 +1,7 @@
 // gates.rs: what a normalization is, and the gates of two inputs. A normalization is a copy of a signal, or a gate with an
 // inversion whose inputs stand at the front of a lent list.
+#![tactic(auto)]
+
 ghost use Rattle.std.specs.Prelude.{◌≡◌, ◌≤◌, length};
 ghost use Rattle.model.specs.Normal.{made2, made3};
 ghost use Rattle.gates.specs.Normals.{normal_of};
@@ -10,7 +12,7 @@ use signal::Signal;
 pub mod binary;
 pub mod order;
 
-#[derive(Drop)]
+#[derive(Clone, Copy)]
 pub enum Normalization {
     // The trivial case: the gate is a signal.
     Copy(Signal),

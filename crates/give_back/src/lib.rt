@@ -1,4 +1,6 @@
 // share_logic.rs, Factoring: the signals that separate_exclusive_signals set aside, given back to their gates.
+#![tactic(auto)]
+
 ghost use Rattle.std.specs.Prelude.{◌≡◌};
 ghost use Rattle.uses.specs.Loading.{lists_in};
 ghost use Rattle.give_back.specs.Giving.{Gives, given_in, Givable, GivenBack};

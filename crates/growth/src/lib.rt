@@ -1,2 +1,4 @@
 // The network that a factoring pass grows.
+#![tactic(auto)]
+
 pub mod grow;

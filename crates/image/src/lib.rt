@@ -1,11 +1,13 @@
 // The door: an image's refusals 2 to 7, each exactly when document 01's line says.
+#![tactic(auto)]
+
 ghost use Rattle.std.specs.Prelude.{◌≡◌};
 ghost use Rattle.image.specs.Reader.{framed_of, numbered_of, checked_of, sorted_checked_of};
 
 use image_body::check_body;
 
 // Where the body starts, and the trailer's counts.
-#[derive(Drop)]
+#[derive(Clone, Copy)]
 pub struct Frame {
     pub start: usize,
     pub inputs: u32,
@@ -13,7 +15,7 @@ pub struct Frame {
     pub outs: u32,
 }
 
-#[derive(Drop)]
+#[derive(Clone, Copy)]
 pub enum Checked {
     Refused(u32),
     Sound(Frame),

@@ -1,4 +1,6 @@
 // The body of an image behind its frame: refusals 4 to 7.
+#![tactic(auto)]
+
 ghost use Rattle.std.specs.Prelude.{◌≡◌, ◌≤◌};
 ghost use Rattle.model.specs.Image.{words};
 ghost use Rattle.image_body.specs.Numbers.{body_number};

@@ -1,4 +1,6 @@
 // The part of an image that holds record k.
+#![tactic(auto)]
+
 ghost use Rattle.std.specs.Prelude.{◌≡◌};
 ghost use Rattle.model.specs.Image.{record_of, record_at_of};
 ghost use Rattle.image_record.specs.Holders.{place_of};
@@ -6,7 +8,7 @@ ghost use Rattle.image_record.specs.Holders.{place_of};
 use image::Checked;
 
 // Bytes of an image: where they begin, and how many.
-#[derive(Drop)]
+#[derive(Clone, Copy)]
 struct Place {
     at: usize,
     size: usize,

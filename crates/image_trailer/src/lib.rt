@@ -1,4 +1,6 @@
 // The trailer of an image, written behind records and outputs.
+#![tactic(auto)]
+
 ghost use Rattle.std.specs.Prelude.{◌≡◌};
 ghost use Rattle.image_trailer.specs.Trailers.{put_words, trailer_words, Trailer};
 

@@ -1,4 +1,6 @@
 // The order of what cleanup keeps: the marked nodes, as they were.
+#![tactic(auto)]
+
 ghost use Rattle.std.specs.Prelude.{◌+◌, ◌<◌};
 ghost use Rattle.keep_marked.specs.Orders.{Marked, Keeping};
 

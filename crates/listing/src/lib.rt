@@ -1,4 +1,6 @@
 // A network as text, into a lent buffer. First its length, then 13 or the bytes, and nothing past them.
+#![tactic(auto)]
+
 ghost use Rattle.std.specs.Prelude.{◌≡◌, [], ◌++◌, ◌+◌, ◌<◌, length};
 ghost use Rattle.model.specs.Answers.{written, in_room};
 ghost use Rattle.model.specs.Listing.{decimal, spaced, numbered, counts_line, table_fields, node_line, output_line, listing_of};

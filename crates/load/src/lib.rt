@@ -1,4 +1,6 @@
 // Loading: an image checked, and its network put into an area.
+#![tactic(auto)]
+
 ghost use Rattle.std.specs.Prelude.{◌≤◌, length};
 ghost use Rattle.model.specs.Image.{refusal_of, sorted_refusal_of};
 ghost use Rattle.tables.specs.Layout.{net_size};
@@ -10,7 +12,7 @@ use tables::counts::Counts;
 use tables::layout::wide;
 
 // The number that refuses an image, or the counts of its network.
-#[derive(Drop)]
+#[derive(Clone, Copy)]
 pub enum Loaded {
     Refused(u32),
     Network(Counts),

@@ -1,4 +1,6 @@
 // The body of an accepted image into an area, in one pass over the records. It cannot fail.
+#![tactic(auto)]
+
 ghost use Rattle.std.specs.Prelude.{◌≡◌, ◌+◌};
 ghost use Rattle.model.specs.Image.{words, net_in};
 ghost use Rattle.tables.specs.Building.{put_inputs, put_outputs};
@@ -9,7 +11,7 @@ use tables::counts::Counts;
 use tables::layout::{put_gate, put_input, put_output, put_table, wide};
 
 // Where the next record stands among the body's words, and its inputs in the area's table.
-#[derive(Drop)]
+#[derive(Clone, Copy)]
 struct Place {
     at: usize,
     first: usize,

@@ -10,7 +10,7 @@ use crate::chain::{HEAD, LINK};
 use same_gate::same_gate;
 use tables::scratch::number;
 
-#[derive(Drop)]
+#[derive(Clone, Copy)]
 pub enum Found {
     At(usize),
     Nothing,

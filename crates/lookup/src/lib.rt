@@ -1,3 +1,5 @@
 // The new nodes of dedup by a hash: chains of those in one bucket, and the first node whose gate is the one in the list.
+#![tactic(auto)]
+
 pub mod chain;
 pub mod find;

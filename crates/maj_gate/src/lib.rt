@@ -1,4 +1,6 @@
 // gates.rs: the Maj.
+#![tactic(auto)]
+
 ghost use Rattle.std.specs.Prelude.{◌≡◌, ◌≤◌, length};
 ghost use Rattle.model.specs.Normal.{make_maj};
 ghost use Rattle.gates.specs.Normals.{normal_of};

@@ -1,4 +1,6 @@
 // merge_dependencies: the inputs of a gate, each as it becomes, pushed at the end of the input table in `to`.
+#![tactic(auto)]
+
 ghost use Rattle.std.specs.Prelude.{◌≡◌, ◌+◌, ◌<◌, ◌≤◌, [], ◌∷◌, length};
 ghost use Rattle.model.specs.Signal.{ref};
 ghost use Rattle.model.specs.Sharing.{opened, merge_dependencies};
@@ -12,7 +14,7 @@ use signal::Signal;
 use tables::layout::{count_at, first_at, input_at, kind_at, put_input, wide};
 
 // Where the next word goes, or that there was no room.
-#[derive(Drop)]
+#[derive(Clone, Copy)]
 pub enum Pushed {
     To(usize),
     Full,

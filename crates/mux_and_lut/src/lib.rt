@@ -1,4 +1,6 @@
 // The value of a Mux and of a Lut: the gates that do not go by how many of their inputs are one.
+#![tactic(auto)]
+
 ghost use Rattle.std.specs.Prelude.{◌≡◌, cond, ◌+◌, ◌<◌, ◌≤◌};
 ghost use Rattle.signal_values.specs.Signals.{input_value, Reads};
 ghost use Rattle.mux_and_lut.specs.Tables.{lut_value};

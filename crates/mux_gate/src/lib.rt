@@ -1,4 +1,6 @@
 // gates.rs: the Mux.
+#![tactic(auto)]
+
 ghost use Rattle.std.specs.Prelude.{◌≡◌, ◌≤◌, length};
 ghost use Rattle.model.specs.Normal.{make_mux, mux_plain};
 ghost use Rattle.gates.specs.Normals.{normal_of};

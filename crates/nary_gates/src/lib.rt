@@ -1,4 +1,6 @@
 // gates.rs: the gates of any number of inputs: n signals at the front of the list.
+#![tactic(auto)]
+
 ghost use Rattle.std.specs.Prelude.{◌≡◌, take};
 ghost use Rattle.model.specs.Normal.{and_wide, make_and_n, xor_some, make_xor_n};
 ghost use Rattle.gates.specs.Normals.{normal_of, Listed};

@@ -1,4 +1,6 @@
 // Equal neighbours dropped from a list at the front of lent words: what gates.rs does to a vector in order, for make_andn and make_xorn.
+#![tactic(auto)]
+
 ghost use Rattle.std.specs.Prelude.{◌≡◌, ◌+◌, ◌≤◌, ◌<◌, length, take};
 ghost use Rattle.model.specs.Normal.{uniq, cancel};
 ghost use Rattle.laws.specs.Lists.{part};

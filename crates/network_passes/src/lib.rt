@@ -1,4 +1,6 @@
 // sort and cleanup of a network in one area, through the other: 8 and 13, or the image of what is made, with the mapping.
+#![tactic(auto)]
+
 ghost use Rattle.std.specs.Prelude.{length};
 ghost use Rattle.tables.specs.Holding.{network_of};
 ghost use Rattle.tables.specs.Working.{Answered2};

@@ -1,4 +1,6 @@
 // What the entries of network.rs do behind 1, over both areas: the image of the passed network, and the mapping.
+#![tactic(auto)]
+
 ghost use Rattle.std.specs.Prelude.{length};
 ghost use Rattle.tables.specs.Working.{Areas, Answered2};
 ghost use Rattle.network_work.specs.Tasks.{work_of};
@@ -10,7 +12,7 @@ pub mod duplicates;
 pub mod sorting;
 
 // Which entry: dedup, or canonical where true; cleanup; sort.
-#[derive(Drop)]
+#[derive(Clone, Copy)]
 pub enum Task {
     Merge(bool),
     Cleanup,

@@ -1,5 +1,7 @@
 // Prints the normal form of each gate of its input: a line `<gate> -> <normal form>` for each record. Standard input holds the
 // records of an image one after another, at most 16,384 bytes; the program ends at the first that is none.
+#![tactic(auto)]
+
 ghost use Rattle.std.specs.Prelude.{◌≤◌, length};
 
 use canonical_gates::make_canonical;

@@ -13,7 +13,7 @@ use tables::layout::{put_gate, put_input, put_table};
 use tables::scratch::word;
 
 // What is built with the gate in it, and the node that it is.
-#[derive(Drop)]
+#[derive(Clone, Copy)]
 pub struct Spot {
     pub built: Built,
     pub node: usize,

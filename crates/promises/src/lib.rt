@@ -1,1 +1,2 @@
 // Statements only: the page of promises stands in proofs/.
+#![tactic(auto)]

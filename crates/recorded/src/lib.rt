@@ -1,4 +1,6 @@
 // A record of docs/RECORDED.md as its bytes: the 16 words of its head and the parts of its data behind them.
+#![tactic(auto)]
+
 ghost use Rattle.std.specs.Prelude.{◌<◌, ◌≤◌, ◌-◌, length};
 
 use crate::buffers::slice;

@@ -1,4 +1,6 @@
 // One pass over the records of a body: their layout.
+#![tactic(auto)]
+
 ghost use Rattle.std.specs.Prelude.{◌≡◌, ◌+◌, ◌*◌, ◌/◌, ◌≤◌, length};
 ghost use Rattle.model.specs.Gate.{fits_kind, fits_code, fits_table};
 ghost use Rattle.model.specs.Image.{words, header_ok, end_from};
@@ -7,7 +9,7 @@ ghost use Rattle.records.specs.Layouts.{size_of, fit_at, laid_from};
 use kinds::Kind;
 
 // Broken, or sound with so many gate inputs in all.
-#[derive(Drop)]
+#[derive(Clone, Copy)]
 pub enum Laid {
     Broken,
     Inputs(usize),

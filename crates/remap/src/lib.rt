@@ -1,5 +1,7 @@
 // network.rs, remap: a network taken over by an order of its nodes. `from` is read, `to` is written, and has the order and the
 // mapping in the tables behind its network.
+#![tactic(auto)]
+
 ghost use Rattle.std.specs.Prelude.{◌≡◌, ◌+◌, ◌<◌, ◌≤◌, length};
 ghost use Rattle.model.specs.Signal.{remap_order};
 ghost use Rattle.tables.specs.Layout.{span, cell, tr_base};

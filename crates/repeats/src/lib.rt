@@ -1,4 +1,6 @@
 // Refusal 9: "an And2, And3 or n-ary And of two or more inputs lists a signal twice".
+#![tactic(auto)]
+
 ghost use Rattle.std.specs.Prelude.{◌≡◌};
 ghost use Rattle.model.specs.Sharing.{repeats, any_repeats};
 ghost use Rattle.tables.specs.Layout.{ins_at, nodes_of};

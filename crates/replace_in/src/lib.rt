@@ -1,4 +1,6 @@
 // One gate's part of replace_pair: where it holds both signals they are taken out, and the new node is put last.
+#![tactic(auto)]
+
 ghost use Rattle.std.specs.Prelude.{◌≡◌, ◌<◌, ◌≤◌, length};
 ghost use Rattle.model.specs.Sharing.{take_out};
 ghost use Rattle.pairs.specs.Lists.{area_size, start_at, list_at, put_list, Laid};

@@ -1,4 +1,6 @@
 // replace_pair: both signals taken from every gate that holds them, the new node put last.
+#![tactic(auto)]
+
 ghost use Rattle.std.specs.Prelude.{◌≡◌, ◌+◌};
 ghost use Rattle.pairs.specs.Lists.{Laid};
 ghost use Rattle.replacing.specs.Swapped.{replaced_all};

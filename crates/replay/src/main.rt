@@ -1,5 +1,7 @@
 // Runs the entries on calls whose answers are known and prints a line for each case or file: document 01's hand cases, which stand in the
 // file `stdin`, and then the recorded answers of docs/RECORDED.md. Of a record that differs, standard error has what does.
+#![tactic(auto)]
+
 ghost use Rattle.std.specs.Prelude.{◌≡◌, length};
 
 use libc::STDIN_FILENO;

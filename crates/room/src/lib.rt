@@ -1,4 +1,6 @@
 // How many new nodes a pass has room for under 12.
+#![tactic(auto)]
+
 ghost use Rattle.std.specs.Prelude.{◌≡◌};
 ghost use Rattle.tables.specs.Layout.{nodes_of};
 ghost use Rattle.shape.specs.Room.{buf_inputs, room_of};

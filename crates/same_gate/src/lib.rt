@@ -1,4 +1,6 @@
 // Whether a new node of dedup has the gate whose inputs stand in the list.
+#![tactic(auto)]
+
 ghost use Rattle.std.specs.Prelude.{◌≡◌, ◌+◌, ◌≤◌, length};
 ghost use Rattle.model.specs.Network.{same_gate};
 ghost use Rattle.tables.specs.Layout.{gate_at};

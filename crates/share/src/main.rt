@@ -1,5 +1,7 @@
 // Prints the listing of a shared network, or `refused` and the number. Standard input holds a word with the flattening limit, then an
 // image; under 4 or over 16,384 bytes in all are refused with 2.
+#![tactic(auto)]
+
 ghost use Rattle.std.specs.Prelude.{◌≤◌, length};
 ghost use Rattle.tables.specs.Layout.{net_size};
 ghost use Rattle.tables.specs.Working.{Answered};

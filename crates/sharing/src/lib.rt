@@ -1,4 +1,6 @@
 // The public entries of share_logic.rs: each promises its answer and every lent word afterwards, for every input.
+#![tactic(auto)]
+
 mod deliver;
 pub mod factor;
 pub mod flattening;

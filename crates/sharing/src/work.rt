@@ -13,7 +13,7 @@ use load::{Loaded, load_sorted};
 use tables::counts::Counts;
 
 // Which entry, with the flattening limit where there is one.
-#[derive(Drop)]
+#[derive(Clone, Copy)]
 pub enum Task {
     Flatten(u32),
     Factor,

@@ -1,9 +1,11 @@
 // signal.rs: a boolean variable or its complement. Bit 0 is inversion, the rest the index; bit 31 marks an input.
+#![tactic(auto)]
+
 ghost use Rattle.std.specs.Prelude.{◌≡◌, not, ◌+◌, ◌-◌, ◌*◌, ◌/◌, ◌%◌, ◌≤◌, ◌<◌, get_or};
 ghost use Rattle.model.specs.Signal.{is_inverted, flip, neg, without_inversion, from_bool, from_var, from_input, is_input, is_constant, is_var};
 ghost use Rattle.signal.specs.Signals.{remapped};
 
-#[derive(Drop)]
+#[derive(Clone, Copy)]
 pub struct Signal {
     pub a: u32,
 }

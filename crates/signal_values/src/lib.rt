@@ -1,5 +1,7 @@
 // The values of a cycle, a word for each index that a signal can have: the constant's, the nodes', and from the far end the
 // inputs'. A signal's value is one reading.
+#![tactic(auto)]
+
 ghost use Rattle.std.specs.Prelude.{◌≡◌, cond, ◌+◌, ◌<◌, ◌≤◌, eqb, length};
 ghost use Rattle.laws.specs.Bools.{bit};
 ghost use Rattle.laws.specs.Lists.{tab};

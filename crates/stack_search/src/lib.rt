@@ -1,4 +1,6 @@
 // The search by a stack: the last pushed is the first taken, and a node comes after all the gates that name it.
+#![tactic(auto)]
+
 ghost use Rattle.std.specs.Prelude.{◌<◌};
 ghost use Rattle.stack_search.specs.Searching.{Live, Turned, Flips};
 
@@ -8,7 +10,7 @@ use tables::layout::{count_at, first_at};
 use tables::scratch::{MARK, ORDER, STACK, number, put_word, word};
 
 // Where the stack ends, and where the order begins.
-#[derive(Drop)]
+#[derive(Clone, Copy)]
 pub struct Turn {
     pub sp: usize,
     pub pos: usize,

@@ -1,4 +1,6 @@
 // The search by a stack, at its start: flip-flops marked, and the gates that no gate names put on the stack.
+#![tactic(auto)]
+
 ghost use Rattle.std.specs.Prelude.{◌+◌, ◌<◌};
 ghost use Rattle.remap.specs.Tables.{Sound};
 ghost use Rattle.count_deps.specs.Counting.{Counted};

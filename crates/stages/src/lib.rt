@@ -1,18 +1,20 @@
 // What each stage of sharing answers, and document 01's numbers for what refuses a factoring pass.
+#![tactic(auto)]
+
 ghost use Rattle.std.specs.Prelude.{◌≡◌};
 ghost use Rattle.stages.specs.Stages.{stage_of_pass};
 
 use tables::counts::Counts;
 
 // The number that refuses a stage, or the counts of its network.
-#[derive(Drop)]
+#[derive(Clone, Copy)]
 pub enum Stage {
     Refused(u32),
     Network(Counts),
 }
 
 // The answer of a factoring pass: the grown network's counts, or what refuses it.
-#[derive(Drop)]
+#[derive(Clone, Copy)]
 pub enum Pass {
     Grown(Counts),
     Pairs,

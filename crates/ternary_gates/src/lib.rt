@@ -1,4 +1,6 @@
 // gates.rs: the gates of three inputs that need no turning, And3, Xor3 and Dff.
+#![tactic(auto)]
+
 ghost use Rattle.std.specs.Prelude.{◌≡◌, ◌≤◌, length};
 ghost use Rattle.model.specs.Normal.{make_and3, make_xor3, make_dff};
 ghost use Rattle.gates.specs.Normals.{normal_of};

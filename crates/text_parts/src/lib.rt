@@ -1,5 +1,7 @@
 // The least parts of a text: a byte put into a lent buffer at a place, the mark of an inversion, and the number that a table is. What has no
 // room is left out, and places go on all the same.
+#![tactic(auto)]
+
 ghost use Rattle.std.specs.Prelude.{◌≡◌, [], ◌∷◌, ◌+◌, ◌*◌};
 ghost use Rattle.model.specs.Listing.{mark_text};
 ghost use Rattle.text_parts.specs.Putting.{place, Put};

@@ -1,10 +1,12 @@
 // The best pair so far, and whether another wins against it: by its count, then its first word, then its second.
+#![tactic(auto)]
+
 ghost use Rattle.std.specs.Prelude.{◌≡◌};
 ghost use Rattle.model.specs.Sharing.{beats};
 ghost use Rattle.top_pair.specs.Tops.{top_of};
 
 // The best pair so far with its count; a count of 0 is no pair.
-#[derive(Drop)]
+#[derive(Clone, Copy)]
 pub struct Top {
     pub n: usize,
     pub a: u32,

@@ -1,5 +1,7 @@
 // network.rs, topo_sort: `from` is read, `to` is written, and has the order, the mapping, counts, marks and the stack in the tables
 // behind its network.
+#![tactic(auto)]
+
 ghost use Rattle.topo_sort.specs.Sorts.{Sortable, Ordering, Sorted};
 
 use crate::order::put_flip_flops;
@@ -12,7 +14,7 @@ use tables::counts::Counts;
 pub mod order;
 
 // Whether there is an order: not where there is a combinational loop.
-#[derive(Drop)]
+#[derive(Clone, Copy)]
 pub enum Sorting {
     Ordered,
     Looped,

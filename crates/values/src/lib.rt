@@ -1,4 +1,6 @@
 // One node's value from the values before it.
+#![tactic(auto)]
+
 ghost use Rattle.std.specs.Prelude.{◌≡◌, true, ◌+◌, ◌<◌, eqb, ltb, length};
 ghost use Rattle.model.specs.Gate.{fits_kind};
 ghost use Rattle.signal_values.specs.Signals.{is_odd, input_value, ones_to, Reads, Gated};

@@ -1,4 +1,6 @@
 // One pass over the signals of a body: whether each names something present, and whether the network is sorted.
+#![tactic(auto)]
+
 ghost use Rattle.std.specs.Prelude.{◌≡◌, ◌+◌, ◌/◌, ◌≤◌, length};
 ghost use Rattle.model.specs.Normal.{most};
 ghost use Rattle.model.specs.Image.{words, end_from};
@@ -7,7 +9,7 @@ ghost use Rattle.wiring.specs.Reach.{reach_of, reach_from, wiring_from};
 use signal::Signal;
 
 // Whether each signal names a constant, an input or a node; and whether each gate stands behind what it names.
-#[derive(Drop)]
+#[derive(Clone, Copy)]
 pub struct Wiring {
     pub named: bool,
     pub sorted: bool,

@@ -1,4 +1,6 @@
 // Little-endian words of a byte slice, at any byte.
+#![tactic(auto)]
+
 ghost use Rattle.std.specs.Prelude.{◌≡◌, ◌+◌, ◌/◌, ◌≤◌, ◌<◌, length, get_or};
 ghost use Rattle.model.specs.Image.{word_at, words, le4};
 ghost use Rattle.words.specs.Stores.{put_word};

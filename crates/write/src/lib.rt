@@ -1,4 +1,6 @@
 // Writing: the network of an area as an image into a lent buffer. First its length, then 13 or the bytes, and nothing past them.
+#![tactic(auto)]
+
 ghost use Rattle.std.specs.Prelude.{[], length};
 ghost use Rattle.model.specs.Image.{image_of};
 ghost use Rattle.model.specs.Answers.{written, in_room};

@@ -1,4 +1,6 @@
 // The bytes of a network's image, and the words of a mapping, into buffers that have room for them; and the length of the image.
+#![tactic(auto)]
+
 ghost use Rattle.std.specs.Prelude.{◌≡◌, ◌+◌, ◌*◌, length};
 ghost use Rattle.model.specs.Image.{table_words, gate_words, gates_words, net_words, image_of};
 ghost use Rattle.model.specs.Answers.{laid_over};

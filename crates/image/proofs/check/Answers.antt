@@ -1,0 +1,7 @@
+-- `check`: each need by its law.
+use Rattle.image.proofs.Checks.{sorts}
+use borrow.Author.Rules.{rules}
+use Rattle.image.proofs.check.Goals as goal
+
+pub returns : goal.returns
+returns c = search (rules, sorts)

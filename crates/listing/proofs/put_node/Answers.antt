@@ -1,0 +1,9 @@
+-- `put_node`: each need by its law.
+use native.Mathlib.Omega.{arith}
+use Rattle.listing.proofs.Lines.{node_put}
+use Rattle.listing.proofs.put_node.Goals as goal
+
+pub returns : goal.returns
+returns c = node_put _ _ _ _ _ (omega arith) c.kind_at.ensures
+    c.first_at.ensures c.count_at.ensures
+    c.put_head-head.ensures c.put_inputs-inputs.ensures c.put_table-end.ensures c.put.ensures

@@ -1,0 +1,19 @@
+-- `put_signal`: each need by its law.
+use borrow.Author.Rules.{rules}
+use Rattle.listing.proofs.Texts.{signals}
+use Rattle.listing.proofs.text.put_signal.Goals as goal
+
+pub returns-then-is_constant : goal.returns-then-is_constant
+returns-then-is_constant c = search (rules, signals)
+
+pub input-requires : goal.input-requires
+input-requires c = search (rules, signals)
+
+pub returns-then-is_input : goal.returns-then-is_input
+returns-then-is_input c = search (rules, signals)
+
+pub var-requires : goal.var-requires
+var-requires c = search (rules, signals)
+
+pub returns : goal.returns
+returns c = search (rules, signals)

@@ -1,0 +1,11 @@
+-- `dedup`: what its loop keeps, and each need by its law.
+use Prim.Native.Nat.{◌-◌}
+use Rattle.model.specs.Normal.{uniq}
+use Rattle.neighbours.proofs.Walks.{Pass}
+use Rattle.neighbours.proofs.dedup.Given as goal
+
+abbrev pub invariant-loop-i : goal.invariant-loop-i
+invariant-loop-i l = Pass uniq l.initial.list l.list l.k l.i l.n
+
+abbrev pub decreases-loop-i : goal.decreases-loop-i
+decreases-loop-i l = l.n - l.i

@@ -1,0 +1,14 @@
+-- `put_left`: each need by its law.
+use Rattle.pairs.proofs.Places.{left_in}
+use Rattle.pairs.specs.Lists.{put_left}
+use Rattle.pairs.proofs.lists.put_left.Goals as goal
+
+pub put_word-requires : goal.put_word-requires
+put_word-requires c = left_in _ _ c.requires
+
+pub shape_of-area : goal.shape_of-area
+shape_of-area c = c.put_word.auto.0
+
+pub returns : goal.returns
+unfolding put_left
+returns c = c.put_word.ensures

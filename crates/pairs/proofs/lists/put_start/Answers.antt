@@ -1,0 +1,14 @@
+-- `put_start`: each need by its law.
+use Rattle.pairs.proofs.Places.{start_in}
+use Rattle.pairs.specs.Lists.{put_start}
+use Rattle.pairs.proofs.lists.put_start.Goals as goal
+
+pub put_word-requires : goal.put_word-requires
+put_word-requires c = start_in _ _ c.requires
+
+pub shape_of-area : goal.shape_of-area
+shape_of-area c = c.put_word.auto.0
+
+pub returns : goal.returns
+unfolding put_start
+returns c = c.put_word.ensures

@@ -1,0 +1,47 @@
+-- `in_areas`: each need by its law.
+use Prim.Native.Nat.{zero-le}
+use mathlib.Core.Path.{refl}
+use Rattle.tables.proofs.Entering.{long_a, long_b, areas_lent, areas_both, same_back, kept_both}
+use Rattle.sharing.proofs.shell.in_areas.Goals as goal
+
+pub slice_bounds-work-count : goal.slice_bounds-work-count
+slice_bounds-work-count c = zero-le
+
+pub slice_bounds-work-start : goal.slice_bounds-work-start
+slice_bounds-work-start c = zero-le
+
+pub slice_bounds-work-end : goal.slice_bounds-work-end
+slice_bounds-work-end c = long_a _ _ _ refl c.requires
+
+pub slice_bounds-work-count-2 : goal.slice_bounds-work-count-2
+slice_bounds-work-count-2 c = zero-le
+
+pub slice_bounds-work-start-2 : goal.slice_bounds-work-start-2
+slice_bounds-work-start-2 c = zero-le
+
+pub slice_bounds-work-end-2 : goal.slice_bounds-work-end-2
+slice_bounds-work-end-2 c = long_b _ _ _ refl c.requires
+
+pub work-r-requires : goal.work-r-requires
+work-r-requires c = areas_lent _ _ _ refl c.requires
+
+pub clear_areas-requires : goal.clear_areas-requires
+clear_areas-requires c = let w = c.work-r in
+    areas_both _ _ _ refl c.requires w.new.1.1.1.0 w.auto.1.1.1.0 w.new.1.1.1.1.0 w.auto.1.1.1.1.0
+
+pub shape_of-out : goal.shape_of-out
+shape_of-out c = c.work-r.auto.1.1.0
+
+pub shape_of-a : goal.shape_of-a
+shape_of-a c = let k = c.clear_areas in
+    let w = c.work-r in
+    same_back w.new.1.1.1.0 c.args.a.now w.auto.1.1.1.0 k.new.0 k.auto.0
+
+pub shape_of-b : goal.shape_of-b
+shape_of-b c = let k = c.clear_areas in
+    let w = c.work-r in
+    same_back w.new.1.1.1.1.0 c.args.b.now w.auto.1.1.1.1.0 k.new.1.0 k.auto.1.0
+
+pub returns : goal.returns
+returns c = let w = c.work-r in
+    kept_both _ _ _ refl c.requires w.new.1.1.1.0 w.auto.1.1.1.0 w.new.1.1.1.1.0 w.auto.1.1.1.1.0 _ _ c.clear_areas.ensures _ _ _ _ w.ensures
