@@ -81,8 +81,8 @@ class Function:
         if not rest:
             raise Unturned("a path ends in before")
         step = rest[0]
-        if norm(step) in ("args", "requires", "ranges", "utf8", "well-formed", "type-inv"):
-            return ["type_inv" if norm(step) == "well-formed" else step, *rest[1:]]
+        if norm(step) in ("args", "requires", "ranges", "utf8", "well-formed"):
+            return [step.replace("-", "_"), *rest[1:]]
         fits = [k for k, it in enumerate(chain) if norm(self.places[it][1][0]) == norm(step)]
         if not fits:
             raise Unturned(f"no step {step} on the way to {at}: {[self.places[it][1][0] for it in chain]}")

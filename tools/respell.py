@@ -65,16 +65,26 @@ def the_map(files):
     return new
 
 
-def respelled(text, new):
-    """The text with its names turned; a step that the check makes of source, behind `c.` or `.before.`, gets underscores alone."""
+def respelled(text, new, walks=False):
+    """The text with its names turned; in a walk a step that the check makes, behind `c.` or `.before.`, gets underscores alone."""
 
     def turn(m):
         name = m[0]
-        if re.search(r"(?<![\w.'-])[cdw](\.before)*\.$", text[max(0, m.start() - 300) : m.start()]):
+        if walks and re.search(r"(?<![\w.'-])[cdw](\.before)*\.$", text[max(0, m.start() - 300) : m.start()]):
             return snake(name) if name in new else name
         return new.get(name, name)
 
     return TOKEN.sub(turn, text)
+
+
+def outside(text, new, own):
+    """The map without the names that a file imports from a library."""
+    taken = set()
+    for m in re.finditer(r"use ([^\s{;]+)\.\{([^}]*)\}", text):
+        parts = m[1].split(".")
+        if parts[0] != "Rattle" or parts[1] not in own:
+            taken |= {it.strip() for it in m[2].split(",")}
+    return {a: b for a, b in new.items() if a not in taken}
 
 
 def in_clauses(text, new):
@@ -113,13 +123,15 @@ def main():
     if "--list" in sys.argv:
         print("\n".join(f"{a}\t{b}" for a, b in sorted(new.items())))
         return
+    own = {it.split("/")[1] for it in files}
     turns = [(files, respelled), (glob.glob("crates/*/src/**/*.rt", recursive=True), in_clauses)]
     turns += [(glob.glob("crates/*/must-fail/*.edit"), in_edit), (["README.md", *glob.glob("docs/*.md")], in_page)]
     for paths, turn in turns:
         for path in sorted(paths):
             with open(path, encoding="utf-8") as f:
                 old = f.read()
-            text = turn(old, new)
+            to = outside(old, new, own)
+            text = respelled(old, to, True) if path.endswith("/Proof.antt") else turn(old, to)
             if text != old:
                 with open(path, "w", encoding="utf-8") as f:
                     f.write(text)

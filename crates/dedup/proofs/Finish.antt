@@ -6,7 +6,7 @@ use mathlib.Core.List.{List}
 use native.Mathlib.Omega.{arith}
 use native.Mathlib.Nat.{le_refl}
 use native.Mathlib.Decide.{ℕ_discrete, dec_lt}
-use lib.ListN.{length, get_or, length_map}
+use lib.ListN.{length, get_or, length-map}
 use lib.Seq.{ext_get_or}
 use Rattle.laws.specs.Lists.{tab}
 use Rattle.laws.proofs.Tabs.{map_tab}
@@ -140,7 +140,7 @@ module _ (src : List ℕ) (c : Counts) (can : Bool) (H : Held src c) (srt : is_t
   nodes_turned : nodes_of m b.nodes ≡ (dedup_with norm N).nodes
   nodes_turned =
       ext_get_or no_gate (nodes_of m b.nodes) (dedup_with norm N).nodes
-      (length_nodes_of m b.nodes ∙ sym (ap length (result_nodes norm (norm_law can) N H.valid srt) ∙ length_map W.news _ ∙ ap length (sym news_is) ∙ length_nodes_of l b.nodes))
+      (length_nodes_of m b.nodes ∙ sym (ap length (result_nodes norm (norm_law can) N H.valid srt) ∙ length-map W.news _ ∙ ap length (sym news_is) ∙ length_nodes_of l b.nodes))
       (λ i q. let p : i < b.nodes = omega (arith, length_nodes_of m b.nodes) in
       get_or_nodes_of m b.nodes i p ∙ gate_turned i p
       ∙ sym (ap (λ (x : List Gate). get_or x i no_gate) (result_nodes norm (norm_law can) N H.valid srt) ∙ get_or_map_in (remap_dff norm N W.trans) W.news no_gate no_gate i (in_news i p)))

@@ -1,7 +1,7 @@
 -- Laws of the frame: one for each answer of `frame_of`.
 use mathlib.Core.Path.{◌≡◌}
 use mathlib.Core.List.{List}
-use mathlib.Core.Bool.{true, false, not, ◌&&◌, and_false}
+use mathlib.Core.Bool.{true, false, not, ◌&&◌, and-false}
 use Prim.Native.Nat.{ℕ, ◌-◌, ◌%◌, ◌≤◌, ◌<◌}
 use lib.ListN.{length}
 use lib.Dec.{eqb, leb}
@@ -19,7 +19,7 @@ frame_short img l = simp (lt-leb 16 (length img) l)
 module _ (img : List ℕ) (d : ℕ) (e : d ≡ span_in img) where
   pub frame_off : not (leb 16 d && (eqb (d % 4) 0 && leb d (length img))) ≡ true → Refused 2 ≡ framed_of img
   unfolding framed_of framed
-  frame_off h = simp (← e, not-true (leb 16 d && (eqb (d % 4) 0 && leb d (length img))) h, and_false)
+  frame_off h = simp (← e, not-true (leb 16 d && (eqb (d % 4) 0 && leb d (length img))) h, and-false)
 
   module _ (h : not (leb 16 d && (eqb (d % 4) 0 && leb d (length img))) ≡ false) where
     test : (leb 16 d && (eqb (d % 4) 0 && leb d (length img))) ≡ true

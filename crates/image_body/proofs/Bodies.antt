@@ -1,7 +1,7 @@
 -- Laws of a body: one for each answer of `check_body`.
 use mathlib.Core.Path.{◌≡◌, refl, sym, ap, ◌∙◌}
 use mathlib.Core.List.{List}
-use mathlib.Core.Bool.{Bool, true, false, not, cond, ◌&&◌, and_false}
+use mathlib.Core.Bool.{Bool, true, false, not, cond, ◌&&◌, and-false}
 use Prim.Native.Nat.{ℕ, ◌+◌, ◌-◌, ◌/◌, ◌≤◌, ◌<◌}
 use native.Mathlib.Omega.{arith}
 use lib.ListN.{length, take, drop}
@@ -55,7 +55,7 @@ module _ (b : List ℕ) (s : Bool) (i n o : ℕ) where
   unfolding body_number laid
   body_short l =
       let w = length_words b in
-      simp (ne_eqb (end_from n (words b) 0 + (o + 4)) (length (words b)) (λ q. omega arith), and_false)
+      simp (ne_eqb (end_from n (words b) 0 + (o + 4)) (length (words b)) (λ q. omega arith), and-false)
 
   module _ (p : o + 4 ≤ length b / 4) (x : Laid) (e : x ≡ laid_from n (words b) 0 0 (length b / 4 - (o + 4))) where
     whole : length b / 4 - (o + 4) + (o + 4) ≡ length (words b)

@@ -1,7 +1,7 @@
 -- Laws of the place of record k.
 use mathlib.Core.Path.{◌≡◌, sym, ap, ◌∙◌}
 use mathlib.Core.List.{List}
-use mathlib.Core.Bool.{false, and_false}
+use mathlib.Core.Bool.{false, and-false}
 use Prim.Native.Nat.{ℕ, ◌+◌, ◌-◌, ◌*◌, ◌/◌, ◌^◌, ◌≤◌, ◌<◌}
 use native.Mathlib.Omega.{arith}
 use lib.ListN.{length, get_or, take, drop, length-drop}
@@ -56,7 +56,7 @@ module _ (img : List ℕ) (r : Checked) (e : r ≡ checked_of img) (f : Frame) (
 
   pub place_none : (k : ℕ) → f.nodes ≤ k → ◌≡◌ {A = Place} (record { at = 0; size = 0 }) (place_of img k)
   unfolding has_record
-  place_none k l = nowhere img k (simp (le-ltb k (nodes_in img) (omega (arith, nodes_is)), and_false))
+  place_none k l = nowhere img k (simp (le-ltb k (nodes_in img) (omega (arith, nodes_is)), and-false))
 
   part_is : take (length img - f.start) (drop f.start img) ≡ body_of img
   unfolding body_of

@@ -4,7 +4,7 @@ use mathlib.Core.Logic.{◌⊎◌, inl, inr}
 use Prim.Native.Nat.{ℕ}
 use native.Mathlib.Omega.{arith}
 use mathlib.Core.Bool.{Bool, true, false, not, ◌&&◌, ◌||◌, beq}
-pub use mathlib.Core.Bool.{and_assoc, and_comm, or_comm, or_true}
+pub use mathlib.Core.Bool.{and_assoc, and_comm, or_comm, or-true}
 use lib.Dec.{T}
 use Rattle.laws.specs.Bools.{xor}
 

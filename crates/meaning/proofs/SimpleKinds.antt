@@ -5,7 +5,7 @@ use Prim.Native.Nat.{ℕ, suc, ◌-◌, ◌≤◌, ◌<◌}
 use native.Mathlib.Omega.{arith}
 use mathlib.Core.Bool.{Bool, true, false, not, cond, ◌&&◌, ◌||◌}
 use mathlib.Core.List.{List, [], map, ◌∷◌}
-use lib.ListN.{length, length_map, get_or}
+use lib.ListN.{length, length-map, get_or}
 use lib.Dec.{eqb, ltb}
 use borrow.Author.Tests.{eqb-true, ltb-true, ltb-false}
 use Rattle.kinds.specs.Kinds.{kind_of, in_family, is_flip_flop}
@@ -16,7 +16,7 @@ use Rattle.kinds.specs.declared.Family.{Family}
 use Rattle.kinds.specs.declared.Family.TheVariants.{And, Xor}
 use Rattle.laws.specs.Bools.{bit}
 use Rattle.laws.specs.Lists.{All}
-use Rattle.laws.proofs.Bools.{true-false, and_left, and_right, or_true}
+use Rattle.laws.proofs.Bools.{true-false, and_left, and_right, or-true}
 use Rattle.laws.proofs.Lists.{all_of, by_one, by_two, by_three, all-at, all_append, all_map}
 use Rattle.laws.proofs.Choices.{by_bool, by-test, clash}
 use Rattle.model.specs.Signal.{neg, is_inverted, remap_order}
@@ -217,7 +217,7 @@ cost g = cond (leads g And || leads g Xor) (length g.ins - 1) (bit (is_simple (k
 
 leads_some : (f : Family) (g : Gate) → leads g f ≡ true → (leads g And || leads g Xor) ≡ true
 leads_some And g e = rw e
-leads_some Xor g e = rw e (or_true (leads g And))
+leads_some Xor g e = rw e (or-true (leads g And))
 
 cost_some : (g : Gate) → (leads g And || leads g Xor) ≡ true → cost g ≡ length g.ins - 1
 unfolding cost
@@ -255,7 +255,7 @@ simple_two f g e s l = omega (arith, simple_cost g e s, cost_leads f g l, bit_le
 
 pub cost_renamed : (τ : ℕ → ℕ) (g : Gate) → cost (remap_gate τ g) ≡ cost g
 unfolding cost
-cost_renamed τ g = rw (length_map g.ins (remap_order τ))
+cost_renamed τ g = rw (length-map g.ins (remap_order τ))
 
 -- A NORMAL FORM COSTS NO MORE
 pub normal_cost : (g h : Gate) (z : Bool) → shaped g ≡ true → make_canonical g ≡ made h z → cost h ≤ cost g
@@ -333,7 +333,7 @@ abbrev pub Pairs : Family → Gate → Type 0
 Pairs f g = leads g f ≡ true → length g.ins ≤ 2
 
 pairs_renamed : (f : Family) (τ : ℕ → ℕ) (g : Gate) → Pairs f g → Pairs f (remap_gate τ g)
-pairs_renamed f τ g p = rw (length_map g.ins (remap_order τ)) p
+pairs_renamed f τ g p = rw (length-map g.ins (remap_order τ)) p
 
 pub canonical_pairs : (f : Family) (N : Net) → Valid N → All (Pairs f) N.nodes → All (Pairs f) (canonical N).nodes
 unfolding kind_of

@@ -5,7 +5,7 @@ use mathlib.Core.Bool.{Bool, true, false}
 use mathlib.Core.List.{List, [], ◌∷◌, ◌++◌, map, append-nil}
 use native.Mathlib.Omega.{arith}
 use native.Mathlib.Decide.{dec_le}
-use lib.ListN.{length, get_or, take, drop, length_map, length-drop, length-append, get_or-append}
+use lib.ListN.{length, get_or, take, drop, length-map, length-drop, length-append, get_or-append}
 use lib.Seq.{take_all, drop_at, drop-length, length-take-le, get_or-take}
 use borrow.Rule.Slice.PartMut.{put_mid, Post-is}
 use lib.Dec.{ltb}
@@ -204,7 +204,7 @@ module _ (src l : List ℕ) (v : ℕ) (b : Built) (A : Asks src l v b) (c can : 
 
   gate_count : length gate.ins ≡ count_at src v
   unfolding gate_at
-  gate_count = ap length (asked_ins c (tr_of l) (gate_at src v)) ∙ length_map (ins_at src v) (looked_up c (tr_of l)) ∙ length_ins_at src v
+  gate_count = ap length (asked_ins c (tr_of l) (gate_at src v)) ∙ length-map (ins_at src v) (looked_up c (tr_of l)) ∙ length_ins_at src v
 
   -- the kind asks for as many inputs as there are
   gate_fits : fits_kind (kind_of (kind_at src v)) (count_at src v) ≡ true

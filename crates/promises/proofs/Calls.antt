@@ -5,7 +5,7 @@ use native.Mathlib.Omega.{arith}
 use native.Mathlib.Decide.{dec_lt}
 use mathlib.Core.Bool.{Bool, true, false, ◌&&◌}
 use mathlib.Core.List.{List, [], ◌∷◌, ◌++◌, map}
-use lib.ListN.{length, get_or, drop, replicate, length-append, length-drop, length-replicate, length_map, get_or-append, get_or-map}
+use lib.ListN.{length, get_or, drop, replicate, length-append, length-drop, length-replicate, length-map, get_or-append, get_or-map}
 use lib.Seq.{get_or-append-add, get_or-drop}
 use lib.Dec.{eqb, ltb}
 use borrow.Author.Tests.{eqb-true, ltb-false, le-ltb}
@@ -170,7 +170,7 @@ low_after N x state = none_some _ (size N) (λ n h. rw (byte_at N x state n h) (
 
 length_outputs : (N : Net) (x state : List ℕ) → length (output_bytes N x state) ≡ length N.outs
 unfolding output_bytes outputs
-length_outputs N x state = simp length_map
+length_outputs N x state = simp length-map
 
 starts_again : (img x state out a b : List ℕ) → Starts img state out a b
     → Starts img (laid_over (state_bytes (net_of img) x state) state) (laid_over (output_bytes (net_of img) x state) out) (area_after a b a) (area_after a b b)

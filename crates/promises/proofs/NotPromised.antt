@@ -165,19 +165,19 @@ Always P = (N : Net) (limit : ℕ) → Taken N limit → P N limit
 
 -- the bound one gate lower; over the canonical source; over the gates of the flattened network, not their weights
 pub bound_no_lower : Always (λ N limit. combs (share_logic N limit).nodes < weights (flatten_nary N limit).nodes) → ⊥
-bound_no_lower claim = let c = computed in omega (arith, claim one_and 64 c.one_and, c.one_and_left, c.one_and_weighs)
+bound_no_lower claim = let c = computed in omega (arith, claim one_and 64 c.one_and_lem, c.one_and_left, c.one_and_weighs)
 
 pub bound_not_over_source : Always (λ N limit. combs (share_logic N limit).nodes ≤ weights (canonical N).nodes) → ⊥
 bound_not_over_source claim = let c = computed in omega (arith, claim crossing 64 c.cross, c.cross_left, c.cross_source)
 
 pub bound_not_by_count : Always (λ N limit. combs (share_logic N limit).nodes ≤ combs (flatten_nary N limit).nodes) → ⊥
-bound_not_by_count claim = let c = computed in omega (arith, claim wide_and 64 c.wide_and, c.wide_and_left, c.wide_and_flattened)
+bound_not_by_count claim = let c = computed in omega (arith, claim wide_and 64 c.wide_and_lem, c.wide_and_left, c.wide_and_flattened)
 
 -- two inputs for every gate
 pub not_all_two_inputs : Always (λ N limit. All (λ (g : Gate). length g.ins ≡ 2) (share_logic N limit).nodes) → ⊥
 not_all_two_inputs claim =
     let c = computed in
-    let two : All (λ (g : Gate). length g.ins ≡ 2) (gate_of Maj (i2 ∷ i1 ∷ i0 ∷ []) ∷ []) = rw c.maj_left at (claim majority 64 c.maj) in
+    let two : All (λ (g : Gate). length g.ins ≡ 2) (gate_of Maj (i2 ∷ i1 ∷ i0 ∷ []) ∷ []) = rw c.maj_left_lem at (claim majority 64 c.maj) in
     omega (arith, two.0)
 
 -- the same outputs from any state; those of later cycles
@@ -196,7 +196,7 @@ not_later claim =
 
 -- every node of the result is reached; the result is canonical; sharing again changes nothing
 pub not_all_reached : Always (λ N limit. cleanup (share_logic N limit) ≡ share_logic N limit) → ⊥
-not_all_reached claim = let c = computed in omega (arith, ap size (claim let_go 64 c.let_go), c.let_go_left, c.let_go_reached)
+not_all_reached claim = let c = computed in omega (arith, ap size (claim let_go 64 c.let_go_lem), c.let_go_left, c.let_go_reached)
 
 pub not_canonical : Always (λ N limit. canonical (share_logic N limit) ≡ share_logic N limit) → ⊥
 not_canonical claim = let c = computed in omega (arith, ap size (claim chain 64 c.in_row), c.in_row_left, c.in_row_canonical)

@@ -2,7 +2,7 @@
 use mathlib.Core.Path.{◌≡◌, ap, sym, ◌∙◌}
 use mathlib.Core.Logic.{◌≢◌}
 use mathlib.Core.List.{List}
-use mathlib.Core.Bool.{Bool, true, false, not, ◌&&◌, and_false}
+use mathlib.Core.Bool.{Bool, true, false, not, ◌&&◌, and-false}
 use Prim.Native.Nat.{ℕ, ◌+◌, ◌-◌, ◌*◌, ◌/◌, ◌%◌, ◌^◌, ◌≤◌, ◌<◌}
 use native.Mathlib.Omega.{arith}
 use native.Mathlib.Nat.{zero-mul, add-zero}
@@ -125,7 +125,7 @@ fit_no ws at lim k = simp k
 
 fit_long : (ws : List ℕ) (at lim : ℕ) → lim < at + size_at ws at → 0 ≡ fit_at ws at lim
 unfolding fit_at
-fit_long ws at lim k = simp (lt-leb (at + size_at ws at) lim k, and_false)
+fit_long ws at lim k = simp (lt-leb (at + size_at ws at) lim k, and-false)
 
 pub fit_past : (ws : List ℕ) (at lim : ℕ) → lim ≤ at → 0 ≡ fit_at ws at lim
 fit_past ws at lim k = fit_long ws at lim (omega (arith, size_pos ws at))

@@ -2,7 +2,7 @@
 use mathlib.Core.Path.{◌≡◌, refl, sym, ap, ◌∙◌}
 use mathlib.Core.Logic.{◌≢◌, ⊎_elim}
 use mathlib.Core.List.{List}
-use mathlib.Core.Bool.{Bool, true, false, cond, ◌&&◌, and_false}
+use mathlib.Core.Bool.{Bool, true, false, cond, ◌&&◌, and-false}
 use Prim.Native.Nat.{ℕ, zero, suc, ◌+◌, ◌-◌, ◌/◌, ◌^◌, ◌≤◌, ◌<◌}
 use native.Mathlib.Omega.{arith}
 use native.Mathlib.Nat.{add_assoc, add-zero, sub-zero}
@@ -64,7 +64,7 @@ laid_broken (suc k) ws at t lim p e =
     (λ (b : leb (at + size_at ws at) lim ≡ false). simp (
       ne_eqb (end_from k ws (at + size_at ws at)) lim
           (λ q. omega (arith, leb-false (at + size_at ws at) lim b, end_le k ws (at + size_at ws at))),
-      and_false,
+      and-false,
     ))
     (and_split (sound_at ws at) (leb (at + size_at ws at) lim)
     (cond_zero (sound_at ws at && leb (at + size_at ws at) lim) (size_at ws at) (size_pos ws at) e))

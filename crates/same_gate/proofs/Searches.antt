@@ -1,7 +1,7 @@
 -- The search for an equal gate, word by word.
 use Prim.Native.Nat.{ℕ, suc, ◌+◌, ◌*◌, ◌^◌, ◌≤◌, ◌<◌}
 use mathlib.Core.Path.{◌≡◌, refl, sym, ap, ◌∙◌}
-use mathlib.Core.Bool.{Bool, true, false, ◌&&◌, and_false}
+use mathlib.Core.Bool.{Bool, true, false, ◌&&◌, and-false}
 use mathlib.Core.List.{List, [], ◌∷◌, ◌++◌}
 use mathlib.Core.Option.{Option, none, some}
 use native.Mathlib.Omega.{arith}
@@ -104,12 +104,12 @@ module _ (l : List ℕ) (w k n lo hi : ℕ) where
       simp (
         same_list_length (tab (cell l list_base) n) (tab (λ j. input_at l (first_at l w + j)) (count_at l w))
             (λ e. h (sym (length_tab (cell l list_base) n) ∙ e ∙ length_tab (λ j. input_at l (first_at l w + j)) (count_at l w))),
-        and_false,
+        and-false,
       )
 
   pub inputs_differ : (t : Bool) → n ≡ count_at l w → t ≡ same_ins l (first_at l w) n → t ≡ false → false ≡ same_gate (listed l k n lo hi) (gate_at l w)
   unfolding same_gate listed gate_at ins_at same_ins
-  inputs_differ t c e f = rw (← c, ← e, f) (sym (and_false (eqb k (kind_at l w))))
+  inputs_differ t c e f = rw (← c, ← e, f) (sym (and-false (eqb k (kind_at l w))))
 
   -- all else agrees: the table decides
   pub table_decides : (t : Bool) → k ≡ kind_at l w → n ≡ count_at l w → t ≡ same_ins l (first_at l w) n → t ≡ true

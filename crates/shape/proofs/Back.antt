@@ -7,7 +7,7 @@ use native.Mathlib.Omega.{arith}
 use native.Mathlib.Nat.{add-zero, add_assoc, sub-zero}
 use native.Mathlib.Numerals.{add-one, add-two, add-three, one-add}
 use lib.ListN.{length, get_or, take, drop, length-drop, take-append-drop, drop_of_length-le}
-use lib.Seq.{drop-drop, drop-cons, take_add, length-take-le}
+use lib.Seq.{drop-drop, drop-cons, take-add, length-take-le}
 use Rattle.model.specs.Gate.{is_lut}
 use Rattle.model.specs.Image.{Bytes, Words32, words, bytes, word_at, code_at, count_at, size_at, table_at, record_gate, gates_from, end_from, nodes_in, outs_in, span_in, body_of, words_of, net_in, net_of, refusal_of, table_words, gate_words, gates_words, body_words, net_words, image_of}
 use Rattle.model.proofs.Bytes.{bytes_words, length_words, get_d_words, word_at_drop, words_small, bytes_drop}
@@ -53,7 +53,7 @@ gate_forth ws at w l = go (is_lut (get_or ws at 0 % 256)) refl
         (ap (λ (n : ℕ). take n (drop at ws)) (add_assoc 1 (h / 256) 2)
         ∙ part_head ws at (h / 256 + 2) (omega arith)
         ∙ ap (λ (x : List ℕ). h ∷ x)
-        (take_add (h / 256) 2 (drop (at + 1) ws)
+        (take-add (h / 256) 2 (drop (at + 1) ws)
         ∙ ap (λ (x : List ℕ). take (h / 256) (drop (at + 1) ws) ++ take 2 x) (drop-drop (h / 256) (at + 1) ws)
         ∙ ap (λ (x : List ℕ). take (h / 256) (drop (at + 1) ws) ++ x)
         (two_words ws (at + 1 + h / 256) (at + 2 + h / 256) (omega arith) (omega arith)))))
@@ -73,7 +73,7 @@ gates_forth (suc k) ws at w l =
     ap₂ {C = List ℕ} (λ x y. x ++ y) (gate_forth ws at w (omega arith)) (gates_forth k ws (at + s) w l)
     ∙ sym
     (ap (λ (n : ℕ). take n (drop at ws)) d
-    ∙ take_add s (end_from k ws (at + s) - (at + s)) (drop at ws)
+    ∙ take-add s (end_from k ws (at + s) - (at + s)) (drop at ws)
     ∙ ap (λ (x : List ℕ). take s (drop at ws) ++ take (end_from k ws (at + s) - (at + s)) x) (drop-drop s at ws))
 
 -- The trailer
@@ -135,7 +135,7 @@ net_forth img by a =
     let g : gates_words (gates_from n ws 0) ≡ take m ws =
     gates_forth n ws 0 w (omega arith) ∙ ap (λ (x : ℕ). take x ws) (sub-zero m) in
     let p : gates_words (gates_from n ws 0) ++ take o (drop m ws) ≡ take (m + o) ws =
-    ap (λ (x : List ℕ). x ++ take o (drop m ws)) g ∙ sym (take_add m o ws) in
+    ap (λ (x : List ℕ). x ++ take o (drop m ws)) g ∙ sym (take-add m o ws) in
     let lo : length (take o (drop m ws)) ≡ o = length-take-le o (drop m ws) (rw length-drop (omega arith)) in
     let lp : length (take (m + o) ws) ≡ m + o = length-take-le (m + o) ws (omega arith) in
     let d : 4 * (m + o + 4) ≡ span_in img = omega arith in

@@ -7,7 +7,7 @@ use native.Mathlib.Omega.{arith}
 use native.Mathlib.Decide.{ℕ_discrete, dec_lt}
 use mathlib.Core.Bool.{Bool, true, false, not}
 use mathlib.Core.List.{List, [], ◌∷◌, map}
-use lib.ListN.{length, get_or, length_map}
+use lib.ListN.{length, get_or, length-map}
 use Rattle.laws.specs.Bools.{bit}
 use Rattle.laws.specs.Lists.{All}
 use Rattle.laws.proofs.Lists.{all_map, get_or_map_in}
@@ -85,7 +85,7 @@ module _ (norm : Gate → Norm) (law : NormLaw norm) (N : Net) (ok : Valid N) (s
   new_more : (i j : ℕ) (g : Gate) → i ≤ j → New i g → New j g
   new_more i j g l w = record {
     is_shaped = w.is_shaped;
-    of_comb_lem = λ e. all_map g.ins (λ s h. here_more N.inputs i j s l h) (w.of_comb e);
+    of_comb_lem = λ e. all_map g.ins (λ s h. here_more N.inputs i j s l h) (w.of_comb_lem e);
     of_cell = w.of_cell;
   }
 
@@ -212,7 +212,7 @@ module _ (norm : Gate → Norm) (law : NormLaw norm) (N : Net) (ok : Valid N) (s
 
   pub result_size : size result ≡ length W.news
   unfolding dedup_with
-  result_size = length_map W.news (remap_dff norm N W.trans)
+  result_size = length-map W.news (remap_dff norm N W.trans)
 
   pub result_gate : (j : ℕ) → j < length W.news → gate_at result j ≡ remap_dff norm N W.trans (get_or W.news j no_gate)
   unfolding dedup_with
@@ -249,7 +249,7 @@ module _ (norm : Gate → Norm) (law : NormLaw norm) (N : Net) (ok : Valid N) (s
 
   turned_length : (τ : ℕ → ℕ) (g : Gate) → length (remap_dff norm N τ g).ins ≡ length g.ins
   turned_length τ g = by_bool (is_dff g)
-      (λ e. ap (λ (h : Gate). length h.ins) (turned_cell τ g e) ∙ length_map g.ins (remap_order τ))
+      (λ e. ap (λ (h : Gate). length h.ins) (turned_cell τ g e) ∙ length-map g.ins (remap_order τ))
       (λ e. ap (λ (h : Gate). length h.ins) (turned_comb τ g e))
 
   pub dedup_size : size result ≤ size N
@@ -303,7 +303,7 @@ module _ (norm : Gate → Norm) (law : NormLaw norm) (N : Net) (ok : Valid N) (s
   dedup_valid = record {
     inputs_few = rw result_inputs ok.inputs_few;
     nodes_few = (let a = dedup_size in let b = ok.nodes_few in omega arith);
-    outs_few = rw (result_outs, length_map N.outs (remap_order W.trans)) ok.outs_few;
+    outs_few = rw (result_outs, length-map N.outs (remap_order W.trans)) ok.outs_few;
     gates_shaped = shaped_all result.nodes (λ v h.
         let l : v < length W.news = omega (arith, result_size) in
         ap shaped (result_gate v l) ∙ turned_shaped W.trans (get_or W.news v no_gate) ∙ (last.news v l).is_shaped);

@@ -5,7 +5,7 @@ use Prim.Native.Nat.{ℕ, suc, ◌/◌, ◌≤◌}
 use native.Mathlib.Omega.{arith}
 use mathlib.Core.Bool.{Bool, true, false, not}
 use mathlib.Core.List.{List, [], ◌∷◌, map}
-use lib.ListN.{length, length_map}
+use lib.ListN.{length, length-map}
 use lib.Dec.{eqb, leb}
 use Rattle.kinds.specs.Kinds.{kind_of, is_flip_flop}
 use Rattle.kinds.specs.declared.Kind.{Kind}
@@ -293,7 +293,7 @@ module _ (S : ℕ → Type 0) (k : Closed S) where
         let p = map without_inversion l in
         let r = without 0 p in
         let few : length (cancel (sorted r)) ≤ n =
-        (let a = (cancel_short (sorted r)).is in let b = sorted_short r in let c = without_short 0 p in let d = length_map l without_inversion in omega arith) in
+        (let a = (cancel_short (sorted r)).is in let b = sorted_short r in let c = without_short 0 p in let d = length-map l without_inversion in omega arith) in
         xor_some_form (cancel (sorted r)) _ few (cancel-all S (sorted r) (sorted_all S r (without_all S 0 p (plain_all l h))))
 
 -- ---- the whole
@@ -326,9 +326,9 @@ module _ (S : ℕ → Type 0) (k : Closed S) where
   normal_k_form Maj l s o e h = on3_form _ s l o h (λ a b c. maj_form S k 3 (omega arith) a b c false)
   normal_k_form Mux l s o e h = on3_form _ s l o h (λ a b c. mux_form S k 3 (omega arith) a b c false)
   normal_k_form AndN l s o e h = and_n_form S k (length l) l false (omega arith) h
-  normal_k_form OrN l s o e h = and_n_form S k (length l) (map neg l) true (rw (length_map l neg) (omega arith)) (neg_all S k l h)
+  normal_k_form OrN l s o e h = and_n_form S k (length l) (map neg l) true (rw (length-map l neg) (omega arith)) (neg_all S k l h)
   normal_k_form NandN l s o e h = and_n_form S k (length l) l true (omega arith) h
-  normal_k_form NorN l s o e h = and_n_form S k (length l) (map neg l) false (rw (length_map l neg) (omega arith)) (neg_all S k l h)
+  normal_k_form NorN l s o e h = and_n_form S k (length l) (map neg l) false (rw (length-map l neg) (omega arith)) (neg_all S k l h)
   normal_k_form XorN l s o e h = xor_n_form S k (length l) l false (omega arith) h
   normal_k_form XnorN l s o e h = xor_n_form S k (length l) l true (omega arith) h
   normal_k_form Buf l s o e h = on1_form (length l) _ s l o h (λ a. copy_form S k (length l) a)

@@ -7,7 +7,7 @@ use native.Mathlib.Omega.{arith}
 use native.Mathlib.Decide.{ℕ_discrete, dec_lt}
 use mathlib.Core.Bool.{Bool, true, false, not, cond}
 use mathlib.Core.List.{List, [], ◌∷◌, map}
-use lib.ListN.{length, get_or, length_map}
+use lib.ListN.{length, get_or, length-map}
 use Rattle.laws.specs.Lists.{All}
 use Rattle.laws.proofs.Choices.{by_bool}
 use Rattle.model.specs.Signal.{from_var, remap_order}
@@ -159,7 +159,7 @@ module _ (norm : Gate → Norm) (N : Net) where
     asked_comb S c τ n h e a =
         let g = remap_gate τ (gate_at N n) in
         let f : Form S (length g.ins) (norm g) = law.of_comb_lem S c g (shaped_remap τ (gate_at N n) ∙ shaped_at N.nodes ok n h) e a in
-        rw e (rw (length_map (gate_at N n).ins (remap_order τ)) at f)
+        rw e (rw (length-map (gate_at N n).ins (remap_order τ)) at f)
 
     pub asked_cell : (τ : ℕ → ℕ) (n : ℕ) → n < size N → is_d n ≡ true → (asked τ n ≡ made (gate_at N n) false) ⊎ (asked τ n ≡ copied 0)
     asked_cell τ n h e = rw e (law.of_cell (gate_at N n) (shaped_at N.nodes ok n h) e)
@@ -170,7 +170,7 @@ module _ (norm : Gate → Norm) (N : Net) where
         by_bool (is_d n) (λ e. rw e s) (λ e. rw e (shaped_remap τ (gate_at N n) ∙ s))
 
     asked_length : (τ : ℕ → ℕ) (n : ℕ) → length (asked_gate τ n).ins ≡ length (gate_at N n).ins
-    asked_length τ n = by_bool (is_d n) (λ e. rw e) (λ e. rw e (length_map (gate_at N n).ins (remap_order τ)))
+    asked_length τ n = by_bool (is_d n) (λ e. rw e) (λ e. rw e (length-map (gate_at N n).ins (remap_order τ)))
 
     asked_dff : (τ : ℕ → ℕ) (n : ℕ) → is_dff (asked_gate τ n) ≡ is_d n
     asked_dff τ n = by_bool (is_d n) (λ e. rw e e) (λ e. rw e e)

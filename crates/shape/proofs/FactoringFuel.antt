@@ -13,7 +13,7 @@ use borrow.Author.Tests.{eq-eqb, eqb-false, eqb-true, ne_eqb}
 use Rattle.laws.specs.Lists.{All}
 use Rattle.model.specs.Network.{has}
 use Rattle.model.specs.Sharing.{Pair, State, Top, all_pairs, beats, consider, find_best_pair, greedy, holds, make_pair, replace_in, replace_pair, take_out, together, top_in, top_over, top_with, total}
-use Rattle.laws.proofs.Bools.{and_comm, and_left, or_comm, or_true}
+use Rattle.laws.proofs.Bools.{and_comm, and_left, or_comm, or-true}
 use Rattle.laws.proofs.Choices.{by_bool}
 use Rattle.laws.proofs.Lists.{all_map}
 use Rattle.shape.proofs.FactoringLists.{take_out_lt}
@@ -40,7 +40,7 @@ two_cons p q x l t = record {
 }
   where
     go : (a b : Bool) → a && b ≡ true → (eqb x p || a) && (eqb x q || b) ≡ true
-    go true true e = rw (or_true (eqb x p), or_true (eqb x q))
+    go true true e = rw (or-true (eqb x p), or-true (eqb x q))
     go true false e = let z : ◌≡◌ {A = ℕ} 0 1 = cc in absurd (omega arith)
     go false b e = let z : ◌≡◌ {A = ℕ} 0 1 = cc in absurd (omega arith)
 
@@ -48,7 +48,7 @@ pub two_here : (a b : ℕ) (l : List ℕ) → has b l ≡ true → Two a b (a �
 unfolding take_out holds
 two_here a b l h = record {
   fewer = rw (eq-eqb a a refl) (rw (take_out_comm a b l) (omega (arith, take_out_lt b a l h)));
-  both = rw (eq-eqb a a refl) (rw h (or_true (eqb a b)));
+  both = rw (eq-eqb a a refl) (rw h (or-true (eqb a b)));
 }
 
 pub two_ordered : (a b : ℕ) (l : List ℕ) → Two a b l → Two (min a b) (max a b) l
@@ -102,7 +102,7 @@ module _ (gs : List (List ℕ)) where
   unfolding top_with
   fine_with t a [] h f = f
   fine_with t a (b ∷ l) h f =
-      fine_with (consider gs t (make_pair a b)) a l (λ c e. h c (rw e (or_true (eqb b c)))) (fine_consider t (make_pair a b) f (h b (rw (eq-eqb b b refl))))
+      fine_with (consider gs t (make_pair a b)) a l (λ c e. h c (rw e (or-true (eqb b c)))) (fine_consider t (make_pair a b) f (h b (rw (eq-eqb b b refl))))
 
   min_max : (a b : ℕ) (l : List ℕ) → Lifts (a ∷ l) → has b l ≡ true → TwoIn (min a b) (max a b) gs
   min_max a b l up h = up (min a b) (max a b) (two_ordered a b (a ∷ l) (two_here a b l h))

@@ -194,10 +194,11 @@ module _ (n₀ : ℕ) (ns : List ℕ) where
   under_round T b n (x ∷ y ∷ l) u =
       let p : Pair = record { fst = x; snd = y } in
       let e : b + suc (length (round_pairs l)) ≡ suc b + length (round_pairs l) = omega arith in
-      rw e (
+      let t : All (Under (tops (grow T b p) (suc b) (round_pairs l)) (suc b + length (round_pairs l)) n) (from_var b ∷ round_left (suc b) l) = (
         under_tops (grow T b p) (suc b) n (round_pairs l) (from_var b) (under_new T b n p u.0 u.1.0),
         under_round (grow T b p) (suc b) n l (all_map l (λ s. under_grow T b n p s) u.1.1),
-      )
+      ) in
+      subst (λ (m : ℕ). All (Under (tops (grow T b p) (suc b) (round_pairs l)) m n) (from_var b ∷ round_left (suc b) l)) (sym e) t
 
   topped_round : (s : State) (i : ℕ) → Topped s → Topped (join_round s i)
   unfolding join_round

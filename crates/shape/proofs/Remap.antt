@@ -5,7 +5,7 @@ use native.Mathlib.Nat.{not-suc-le-zero, le_of_suc-le-suc}
 use native.Mathlib.Omega.{arith}
 use mathlib.Core.Bool.{true, false}
 use mathlib.Core.List.{List, [], ◌∷◌, map}
-use lib.ListN.{length, get_or, set, length_map, length-set, replicate, length-replicate}
+use lib.ListN.{length, get_or, set, length-map, length-set, replicate, length-replicate}
 use lib.Seq.{get_or-set_same, get_or-set_other}
 use Rattle.laws.specs.Lists.{All, Fresh, Distinct}
 use Rattle.laws.proofs.Lists.{all_map, all_both, all-at, map-all, get_or_map_in}
@@ -55,7 +55,7 @@ translation_kept n order distinct bound v k =
 module _ (N : Net) (order : List ℕ) where
   pub remap_size : size (remap order N) ≡ length order
   unfolding remap
-  remap_size = length_map order _
+  remap_size = length-map order _
 
   pub remap_inputs : (remap order N).inputs ≡ N.inputs
   unfolding remap
@@ -132,7 +132,7 @@ module _ (N : Net) (order : List ℕ) where
           arith,
           fanin_total (remap order N).nodes,
           fanin_total N.nodes,
-          remap_weigh (λ g. length g.ins) (λ t g. length_map g.ins (remap_order t)),
+          remap_weigh (λ g. length g.ins) (λ t g. length-map g.ins (remap_order t)),
         )
 
     pub remap_combs : combs (remap order N).nodes ≤ combs N.nodes
@@ -177,7 +177,7 @@ module _ (N : Net) (order : List ℕ) where
     remap_valid A = record {
       inputs_few = rw remap_inputs A.inputs_few;
       nodes_few = let n = A.nodes_few in omega (arith, remap_size, order_length);
-      outs_few = rw (remap_outs, length_map N.outs (remap_order τ)) A.outs_few;
+      outs_few = rw (remap_outs, length-map N.outs (remap_order τ)) A.outs_few;
       gates_shaped = remap_shaped A.gates_shaped;
       ins_few = let n = A.ins_few in omega (arith, remap_fanin);
       signals = remap_wired A.nodes_few A.signals;

@@ -3,7 +3,7 @@ use mathlib.Core.Path.{◌≡◌, refl, sym, ap, ◌∙◌}
 use Prim.Native.Nat.{ℕ, ◌-◌, ◌/◌, ◌≤◌, ◌<◌, suc-le-suc, zero-le}
 use native.Mathlib.Omega.{arith}
 use native.Mathlib.Decide.{ℕ_discrete, dec_lt}
-use mathlib.Core.Bool.{true, false, not, and_false}
+use mathlib.Core.Bool.{true, false, not, and-false}
 use mathlib.Core.List.{List, [], ◌∷◌, ◌++◌, append-nil}
 use lib.ListN.{length}
 use lib.Dec.{ltb}
@@ -26,7 +26,7 @@ var_is s h l = rw (lt-ltb s 2147483648 l, ne_eqb (s / 2) 0 (omega arith))
 pub var_low : (s : ℕ) → is_var s ≡ true → 2 ≤ s
 unfolding is_var
 var_low s h = elim (ℕ_discrete (s / 2) 0) [
-  | yes e ↦ clash h (rw (eq-eqb (s / 2) 0 e) (and_false (not (not (ltb s 2147483648)))))
+  | yes e ↦ clash h (rw (eq-eqb (s / 2) 0 e) (and-false (not (not (ltb s 2147483648)))))
   | no e ↦ omega arith
 ]
 

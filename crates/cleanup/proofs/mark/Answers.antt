@@ -31,7 +31,7 @@ pub push_inputs-requires : goal.push_inputs-requires
 push_inputs-requires c = walk_ins _ _ _ _ c.requires.0 _ _ c.requires.1 refl c.number-v.ensures _ c.word.ensures c.if-word-gt0.false _ c.put_word.ensures _ _ c.first_at.ensures c.count_at.ensures
 
 pub shape_of-to : goal.shape_of-to
-shape_of-to c = c.push_inputs.auto.1.0 ∙ c.put_word.auto.0
+shape_of-to c = c.push_inputs.auto.to ∙ c.put_word.auto.area
 
 pub returns : goal.returns
 returns c = walk_done _ _ _ _ c.requires.0 _ _ c.requires.1 refl c.number-v.ensures _ c.word.ensures c.if-word-gt0.false _ c.put_word.ensures _ _ c.first_at.ensures c.count_at.ensures _ _ c.push_inputs.ensures

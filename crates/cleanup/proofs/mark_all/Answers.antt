@@ -18,10 +18,10 @@ pub loop-sp-smaller : goal.loop-sp-smaller
 loop-sp-smaller c = c.mark-sp.ensures.less
 
 pub loop-sp-preserved : goal.loop-sp-preserved
-loop-sp-preserved c = (c.mark-sp.auto.1.0 ∙ c.loop-sp.invariant.0, c.mark-sp.ensures.live)
+loop-sp-preserved c = (c.mark-sp.auto.to ∙ c.loop-sp.invariant.0, c.mark-sp.ensures.live)
 
 pub shape_of-to : goal.shape_of-to
-shape_of-to c = c.loop-sp.invariant.0 ∙ c.push_outputs-sp.auto.1.0 ∙ c.clear_table.auto.0
+shape_of-to c = c.loop-sp.invariant.0 ∙ c.push_outputs-sp.auto.to ∙ c.clear_table.auto.to
 
 pub returns : goal.returns
 returns c = walk_end _ _ _ _ c.loop-sp.invariant.1 c.loop-sp-test.false

@@ -22,7 +22,7 @@ pub loop-j-smaller : goal.loop-j-smaller
 loop-j-smaller c = one_less c.loop-j-test.true
 
 pub loop-j-preserved : goal.loop-j-preserved
-loop-j-preserved c = (c.push_signal-top.auto.0 ∙ c.loop-j.invariant.0, ins_next _ _ _ _ _ c.requires _ _ _ c.loop-j.invariant.1 _ _ _ c.loop-j-test.true c.input_at.ensures c.push_signal-top.ensures)
+loop-j-preserved c = (c.push_signal-top.auto.to ∙ c.loop-j.invariant.0, ins_next _ _ _ _ _ c.requires _ _ _ c.loop-j.invariant.1 _ _ _ c.loop-j-test.true c.input_at.ensures c.push_signal-top.ensures)
 
 pub shape_of-to : goal.shape_of-to
 shape_of-to c = c.loop-j.invariant.0

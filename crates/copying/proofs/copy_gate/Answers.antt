@@ -22,7 +22,7 @@ pub overflow_cast-n : goal.overflow_cast-n
 overflow_cast-n c = gate_count _ _ _ _ c.requires _ c.count_at-n.ensures
 
 pub put_gate-requires : goal.put_gate-requires
-put_gate-requires c = gate_room _ _ _ _ c.requires _ c.copy_inputs.auto.1.0
+put_gate-requires c = gate_room _ _ _ _ c.requires _ c.copy_inputs.auto.to
 
 pub low_at-requires : goal.low_at-requires
 low_at-requires c = gate_read _ _ _ _ c.requires
@@ -31,10 +31,10 @@ pub high_at-requires : goal.high_at-requires
 high_at-requires c = gate_read _ _ _ _ c.requires
 
 pub put_table-requires : goal.put_table-requires
-put_table-requires c = gate_room _ _ _ _ c.requires _ (c.put_gate.auto.0 ∙ c.copy_inputs.auto.1.0)
+put_table-requires c = gate_room _ _ _ _ c.requires _ (c.put_gate.auto.net ∙ c.copy_inputs.auto.to)
 
 pub shape_of-to : goal.shape_of-to
-shape_of-to c = c.put_table.auto.0 ∙ c.put_gate.auto.0 ∙ c.copy_inputs.auto.1.0
+shape_of-to c = c.put_table.auto.net ∙ c.put_gate.auto.net ∙ c.copy_inputs.auto.to
 
 pub returns : goal.returns
 returns c = gate_done _ _ _ _ c.requires _ _ _ _ _ _ _ _ c.count_at-n.ensures c.first_at.ensures c.kind_at.ensures c.low_at.ensures c.high_at.ensures c.copy_inputs.ensures c.put_gate.ensures c.put_table.ensures

@@ -24,7 +24,7 @@ pub loop-j-smaller : goal.loop-j-smaller
 loop-j-smaller c = turn_less c.loop-j-test.true
 
 pub loop-j-preserved : goal.loop-j-preserved
-loop-j-preserved c = copy_step _ _ _ _ _ _ _ c.loop-j.invariant _ _ c.loop-j-test.true c.input_at.ensures c.put_input.ensures c.put_input.auto.0
+loop-j-preserved c = copy_step _ _ _ _ _ _ _ c.loop-j.invariant _ _ c.loop-j-test.true c.input_at.ensures c.put_input.ensures c.put_input.auto.net
 
 pub shape_of-to : goal.shape_of-to
 shape_of-to c = c.loop-j.invariant.same

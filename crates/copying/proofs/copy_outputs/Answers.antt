@@ -18,7 +18,7 @@ pub loop-j-smaller : goal.loop-j-smaller
 loop-j-smaller c = turn_less c.loop-j-test.true
 
 pub loop-j-preserved : goal.loop-j-preserved
-loop-j-preserved c = outs_next _ _ _ _ _ c.loop-j.invariant _ _ c.loop-j-test.true c.output_at.ensures c.put_output.ensures c.put_output.auto.0
+loop-j-preserved c = outs_next _ _ _ _ _ c.loop-j.invariant _ _ c.loop-j-test.true c.output_at.ensures c.put_output.ensures c.put_output.auto.net
 
 pub shape_of-to : goal.shape_of-to
 shape_of-to c = c.loop-j.invariant.same

@@ -1,4 +1,6 @@
 -- `down_one`: each need by its law.
+use mathlib.Core.Path.{ap}
+use mathlib.Core.Bool.{not}
 use borrow.Author.Rules.{rules}
 use Rattle.count_down.proofs.Downs.{lower_more, lowers}
 use Rattle.count_down.proofs.down_one.Goals as goal
@@ -25,7 +27,7 @@ pub shape_of-to-then-n-gt1 : goal.shape_of-to-then-n-gt1
 shape_of-to-then-n-gt1 c = search (rules, lowers)
 
 pub returns-then-n-gt1 : goal.returns-then-n-gt1
-returns-then-n-gt1 c = lower_more _ _ c.is_node.ensures _ _ _ _ _ c.if-not-is_node.false c.node_of-d.ensures c.word-n.ensures c.if-n-gt1.true c.put_word.ensures
+returns-then-n-gt1 c = lower_more _ _ c.is_node.ensures _ _ _ _ _ (ap not c.if-not-is_node.false) c.node_of-d.ensures c.word-n.ensures c.if-n-gt1.true c.put_word.ensures
 
 pub put_word-requires-2 : goal.put_word-requires-2
 put_word-requires-2 c = search (rules, lowers)

@@ -19,13 +19,13 @@ pub xor-s-requires : goal.xor-s-requires
 xor-s-requires c = tt
 
 pub shape_of-to-in-Copy : goal.shape_of-to-in-Copy
-shape_of-to-in-Copy c = c.put_word.auto.0
+shape_of-to-in-Copy c = c.put_word.auto.area
 
 pub returns-in-Copy : goal.returns-in-Copy
 returns-in-Copy c = settle_copy _ _ _ _ c.requires _ _ _ _ c.in-Copy.is c.put_word.ensures
 
 pub shape_of-to-in-Node : goal.shape_of-to-in-Node
-shape_of-to-in-Node c = c.put_word-in-Node.auto.0 ∙ c.place-p.auto.0
+shape_of-to-in-Node c = c.put_word-in-Node.auto.area ∙ c.place-p.auto.to
 
 pub returns-in-Node : goal.returns-in-Node
 returns-in-Node c = settle_node _ _ _ _ c.requires _ _ _ _ _ _ _ _ _ _ _ c.in-Node.is c.code.ensures c.place-p.ensures c.from_var.ensures c.xor-s.ensures c.put_word-in-Node.ensures

@@ -1,3 +1,5 @@
+use mathlib.Core.Path.{ap}
+use mathlib.Core.Bool.{not}
 use native.Mathlib.Omega.{arith}
 use borrow.Author.Rules.{rules}
 use Rattle.give_back.proofs.Givings.{give_next, give_backs}
@@ -31,7 +33,7 @@ pub loop-v-smaller : goal.loop-v-smaller
 loop-v-smaller c = search (rules, give_backs)
 
 pub loop-v-preserved : goal.loop-v-preserved
-loop-v-preserved c = give_next _ _ _ _ _ _ _ c.loop-v.invariant c.requires (omega arith) _ c.takes.ensures c.if-not-takes.false _ c.give_gate.ensures (search rules)
+loop-v-preserved c = give_next _ _ _ _ _ _ _ c.loop-v.invariant c.requires (omega arith) _ c.takes.ensures (ap not c.if-not-takes.false) _ c.give_gate.ensures (search rules)
 
 pub shape_of-to : goal.shape_of-to
 shape_of-to c = search (rules, give_backs)

@@ -10,7 +10,7 @@ pub put_word-requires : goal.put_word-requires
 put_word-requires c = keep_room _ _ _ _ _ c.requires.0 c.requires.1
 
 pub shape_of-to-then-word-gt0 : goal.shape_of-to-then-word-gt0
-shape_of-to-then-word-gt0 c = c.put_word.auto.0
+shape_of-to-then-word-gt0 c = c.put_word.auto.area
 
 pub returns-then-word-gt0 : goal.returns-then-word-gt0
 returns-then-word-gt0 c = keep_yes _ _ _ _ _ c.requires.0 c.requires.1 _ c.word.ensures _ c.if-word-gt0.true c.put_word.ensures

@@ -8,7 +8,7 @@ pub loop-j-init : goal.loop-j-init
 loop-j-init c = (zero-le, refl, inputs_none _ _ _ _)
 
 pub overflow_add-at : goal.overflow_add-at
-overflow_add-at c = inputs_at _ _ _ _ _ c.requires _ _ c.loop-j.invariant c.loop-j-test.true c.type_inv.0.0
+overflow_add-at c = inputs_at _ _ _ _ _ c.requires _ _ c.loop-j.invariant c.loop-j-test.true c.well_formed.0.0
 
 pub nth-s-requires : goal.nth-s-requires
 nth-s-requires c = inputs_word _ _ _ _ _ c.requires _ _ c.loop-j.invariant c.loop-j-test.true
@@ -26,7 +26,7 @@ pub loop-j-smaller : goal.loop-j-smaller
 loop-j-smaller c = turn_less c.loop-j-test.true
 
 pub loop-j-preserved : goal.loop-j-preserved
-loop-j-preserved c = inputs_next _ _ _ _ _ c.requires _ _ c.loop-j.invariant c.loop-j-test.true _ _ c.nth-s.ensures c.put_input.auto.0 c.put_input.ensures
+loop-j-preserved c = inputs_next _ _ _ _ _ c.requires _ _ c.loop-j.invariant c.loop-j-test.true _ _ c.nth-s.ensures c.put_input.auto.net c.put_input.ensures
 
 pub shape_of-to : goal.shape_of-to
 shape_of-to c = c.loop-j.invariant.1

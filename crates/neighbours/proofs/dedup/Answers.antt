@@ -19,13 +19,13 @@ pub loop-i-preserved-then-has_twin : goal.loop-i-preserved-then-has_twin
 loop-i-preserved-then-has_twin c = pass_skip _ _ _ _ _ _ c.loop-i.invariant c.loop-i-test.true (uniq_skip _ _ _ _ c.loop-i-test.true c.loop-i.invariant.room c.has_twin.ensures c.if-has_twin.true)
 
 pub offset_bounds-list-i : goal.offset_bounds-list-i
-offset_bounds-list-i c = word_fits c.loop-i-test.true c.loop-i.invariant.room c.loop-i.invariant.size c.type_inv.0.1
+offset_bounds-list-i c = word_fits c.loop-i-test.true c.loop-i.invariant.room c.loop-i.invariant.size c.well_formed.0.1
 
 pub bounds-list-i : goal.bounds-list-i
 bounds-list-i c = word_inside c.loop-i-test.true c.loop-i.invariant.room
 
 pub offset_bounds-list-k : goal.offset_bounds-list-k
-offset_bounds-list-k c = word_fits (pass_place _ _ _ _ _ _ c.loop-i.invariant c.loop-i-test.true) c.loop-i.invariant.room c.loop-i.invariant.size c.type_inv.0.1
+offset_bounds-list-k c = word_fits (pass_place _ _ _ _ _ _ c.loop-i.invariant c.loop-i-test.true) c.loop-i.invariant.room c.loop-i.invariant.size c.well_formed.0.1
 
 pub bounds-list-k : goal.bounds-list-k
 bounds-list-k c = word_inside (pass_place _ _ _ _ _ _ c.loop-i.invariant c.loop-i-test.true) c.loop-i.invariant.room

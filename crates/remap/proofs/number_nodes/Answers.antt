@@ -26,10 +26,10 @@ pub loop-k-smaller : goal.loop-k-smaller
 loop-k-smaller c = turn_less c.loop-k-test.true
 
 pub loop-k-preserved : goal.loop-k-preserved
-loop-k-preserved c = (turn_up c.loop-k-test.true, c.put_word.auto.0 ∙ c.loop-k.invariant.1, number_next _ _ _ _ c.requires c.clear_table.ensures _ _ c.loop-k.invariant.2 _ c.loop-k-test.true c.number-v.ensures _ _ c.from_var.ensures c.put_word.ensures)
+loop-k-preserved c = (turn_up c.loop-k-test.true, c.put_word.auto.area ∙ c.loop-k.invariant.1, number_next _ _ _ _ c.requires c.clear_table.ensures _ _ c.loop-k.invariant.2 _ c.loop-k-test.true c.number-v.ensures _ _ c.from_var.ensures c.put_word.ensures)
 
 pub shape_of-to : goal.shape_of-to
-shape_of-to c = c.loop-k.invariant.1 ∙ c.clear_table.auto.0
+shape_of-to c = c.loop-k.invariant.1 ∙ c.clear_table.auto.to
 
 pub returns : goal.returns
 returns c = number_done _ _ _ _ c.requires c.clear_table.ensures _ _ c.loop-k.invariant.2 c.loop-k.invariant.0 c.loop-k-test.false

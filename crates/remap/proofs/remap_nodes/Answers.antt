@@ -20,7 +20,7 @@ pub loop-k-smaller : goal.loop-k-smaller
 loop-k-smaller c = turn_less c.loop-k-test.true
 
 pub loop-k-preserved : goal.loop-k-preserved
-loop-k-preserved c = (turn_up c.loop-k-test.true, c.remap_gate-at.auto.1.0 ∙ c.loop-k.invariant.1, move_next _ _ _ _ c.requires _ _ _ c.loop-k.invariant.2 c.loop-k-test.true _ c.number-v.ensures _ _ c.remap_gate-at.ensures)
+loop-k-preserved c = (turn_up c.loop-k-test.true, c.remap_gate-at.auto.to ∙ c.loop-k.invariant.1, move_next _ _ _ _ c.requires _ _ _ c.loop-k.invariant.2 c.loop-k-test.true _ c.number-v.ensures _ _ c.remap_gate-at.ensures)
 
 pub shape_of-to : goal.shape_of-to
 shape_of-to c = c.loop-k.invariant.1

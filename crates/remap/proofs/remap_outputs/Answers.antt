@@ -23,7 +23,7 @@ pub loop-j-smaller : goal.loop-j-smaller
 loop-j-smaller c = turn_less c.loop-j-test.true
 
 pub loop-j-preserved : goal.loop-j-preserved
-loop-j-preserved c = out_next _ _ _ c.requires _ _ c.loop-j.invariant c.loop-j-test.true _ _ _ c.output_at.ensures c.translate-s.ensures c.put_output.auto.0 c.put_output.ensures
+loop-j-preserved c = out_next _ _ _ c.requires _ _ c.loop-j.invariant c.loop-j-test.true _ _ _ c.output_at.ensures c.translate-s.ensures c.put_output.auto.net c.put_output.ensures
 
 pub shape_of-to : goal.shape_of-to
 shape_of-to c = c.loop-j.invariant.1

@@ -1,3 +1,5 @@
+use mathlib.Core.Path.{ap}
+use mathlib.Core.Bool.{not}
 use native.Mathlib.Omega.{arith}
 use borrow.Author.Rules.{rules}
 use Rattle.repeats.proofs.Searched.{clear_skip, searched}
@@ -16,7 +18,7 @@ pub loop-v-smaller-then-not-takes : goal.loop-v-smaller-then-not-takes
 loop-v-smaller-then-not-takes c = search (rules, searched)
 
 pub loop-v-preserved-then-not-takes : goal.loop-v-preserved-then-not-takes
-loop-v-preserved-then-not-takes c = clear_skip _ _ _ c.loop-v.invariant (omega arith) _ c.takes.ensures c.if-not-takes.true
+loop-v-preserved-then-not-takes c = clear_skip _ _ _ c.loop-v.invariant (omega arith) _ c.takes.ensures (ap not c.if-not-takes.true)
 
 pub repeats-requires : goal.repeats-requires
 repeats-requires c = search (rules, searched)

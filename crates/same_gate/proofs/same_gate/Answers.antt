@@ -31,7 +31,7 @@ same_inputs-requires c = let a = c.args in
 pub returns-then-not-same_inputs : goal.returns-then-not-same_inputs
 returns-then-not-same_inputs c = let a = c.args in
     inputs_differ a.to.now a.w a.kind a.n a.low a.high c.same_inputs.result (c.if-n-count_at.false ∙ c.count_at.ensures)
-    (c.same_inputs.ensures ∙ ap (λ (f : ℕ). same_ins a.to.now f a.n) c.first_at.ensures) (not-true _ c.if-not-same_inputs.true)
+    (c.same_inputs.ensures ∙ ap (λ (f : ℕ). same_ins a.to.now f a.n) c.first_at.ensures) c.if-not-same_inputs.true
 
 pub low_at-requires : goal.low_at-requires
 low_at-requires c = node_in_lem _ _ c.requires
@@ -41,7 +41,7 @@ high_at-requires c = node_in_lem _ _ c.requires
 
 pub returns : goal.returns
 returns c = let a = c.args in
-    let lo : low_at a.to.now a.w < 2 ^ 32 = rw (← c.low_at.ensures) c.low_at.type-inv in
+    let lo : low_at a.to.now a.w < 2 ^ 32 = rw (← c.low_at.ensures) c.low_at.type_inv in
     rw (c.low_at.ensures, c.high_at.ensures)
     (table_decides a.to.now a.w a.kind a.n a.low a.high c.same_inputs.result (c.if-kind-kind_at.false ∙ c.kind_at.ensures) (c.if-n-count_at.false ∙ c.count_at.ensures)
-    (c.same_inputs.ensures ∙ ap (λ (f : ℕ). same_ins a.to.now f a.n) c.first_at.ensures) (not-false _ c.if-not-same_inputs.false) c.ranges.low.fits lo)
+    (c.same_inputs.ensures ∙ ap (λ (f : ℕ). same_ins a.to.now f a.n) c.first_at.ensures) c.if-not-same_inputs.false c.ranges.low.fits lo)

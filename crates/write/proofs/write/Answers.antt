@@ -12,7 +12,7 @@ pub write_image-requires : goal.write_image-requires
 write_image-requires c = write_room _ _ _ _ c.image_len-len.ensures c.requires c.if-out-len.false
 
 pub shape_of-out : goal.shape_of-out
-shape_of-out c = c.write_image.auto.1.1.0
+shape_of-out c = c.write_image.auto.out
 
 pub returns : goal.returns
 returns c = write_done _ _ _ _ c.image_len-len.ensures c.if-out-len.false _ c.write_image.ensures

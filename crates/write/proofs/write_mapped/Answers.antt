@@ -18,10 +18,10 @@ pub write_mapping-requires : goal.write_mapping-requires
 write_mapping-requires c = mapped_room _ _ _ _ c.requires c.if-map-old.false
 
 pub shape_of-out : goal.shape_of-out
-shape_of-out c = c.write_image.auto.1.1.0
+shape_of-out c = c.write_image.auto.out
 
 pub shape_of-map : goal.shape_of-map
-shape_of-map c = c.write_mapping.auto.1.1.0
+shape_of-map c = c.write_mapping.auto.map
 
 pub returns : goal.returns
 returns c = mapped_done _ _ _ _ c.image_len-len.ensures _ _ c.requires c.if-out-len.false c.if-map-old.false _ _ c.write_image.ensures c.write_mapping.ensures

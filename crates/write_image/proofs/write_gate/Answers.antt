@@ -25,25 +25,25 @@ pub first_at-requires : goal.first_at-requires
 first_at-requires c = node_asked _ _ c.requires.node
 
 pub overflow_add-at : goal.overflow_add-at
-overflow_add-at c = head_end _ _ _ _ c.requires c.type_inv.1.1.0.0
+overflow_add-at c = head_end _ _ _ _ c.requires c.well_formed.1.1.0.0
 
 pub write_inputs-requires : goal.write_inputs-requires
-write_inputs-requires c = gate_inputs _ _ _ _ c.requires _ c.count_at-n.ensures _ c.first_at.ensures _ c.put_word.auto.0
+write_inputs-requires c = gate_inputs _ _ _ _ c.requires _ c.count_at-n.ensures _ c.first_at.ensures _ c.put_word.auto.dst
 
 pub overflow_add-at-2 : goal.overflow_add-at-2
-overflow_add-at-2 c = head_end _ _ _ _ c.requires c.type_inv.1.1.0.0
+overflow_add-at-2 c = head_end _ _ _ _ c.requires c.well_formed.1.1.0.0
 
 pub overflow_mul-n-2 : goal.overflow_mul-n-2
 overflow_mul-n-2 c = ins_bytes _ _ _ _ c.requires _ c.count_at-n.ensures
 
 pub overflow_add-at-3 : goal.overflow_add-at-3
-overflow_add-at-3 c = ins_end _ _ _ _ c.requires _ c.count_at-n.ensures c.type_inv.1.1.0.0
+overflow_add-at-3 c = ins_end _ _ _ _ c.requires _ c.count_at-n.ensures c.well_formed.1.1.0.0
 
 pub write_table-requires : goal.write_table-requires
-write_table-requires c = gate_table _ _ _ _ c.requires _ c.count_at-n.ensures c.put_word.new.0 _ c.put_word.auto.0 c.write_inputs.auto.1.1.1.0
+write_table-requires c = gate_table _ _ _ _ c.requires _ c.count_at-n.ensures c.put_word.new.0 _ c.put_word.auto.dst c.write_inputs.auto.out
 
 pub shape_of-out : goal.shape_of-out
-shape_of-out c = c.write_table.auto.1.1.0 ∙ c.write_inputs.auto.1.1.1.0 ∙ c.put_word.auto.0
+shape_of-out c = c.write_table.auto.out ∙ c.write_inputs.auto.out ∙ c.put_word.auto.dst
 
 pub returns : goal.returns
 returns c = gate_put _ _ _ _ c.requires _ c.count_at-n.ensures _ _ c.kind_at.ensures c.first_at.ensures _ _ _ _ c.put_word.ensures c.write_inputs.ensures c.write_table.ensures

@@ -7,7 +7,7 @@ pub write_nodes-end-requires : goal.write_nodes-end-requires
 write_nodes-end-requires c = records_room _ _ _ c.requires
 
 pub write_outputs-requires : goal.write_outputs-requires
-write_outputs-requires c = outs_asked _ _ _ c.requires _ _ c.write_nodes-end.ensures c.write_nodes-end.auto.1.1.0
+write_outputs-requires c = outs_asked _ _ _ c.requires _ _ c.write_nodes-end.ensures c.write_nodes-end.auto.out
 
 pub overflow_mul-counts : goal.overflow_mul-counts
 overflow_mul-counts c = outs_fit _ _ _ c.requires _ _ c.write_nodes-end.ensures
@@ -16,10 +16,10 @@ pub overflow_add-end : goal.overflow_add-end
 overflow_add-end c = end_fit _ _ _ c.requires _ _ c.write_nodes-end.ensures
 
 pub write_trailer-requires : goal.write_trailer-requires
-write_trailer-requires c = trailer_asked _ _ _ c.requires _ _ c.write_nodes-end.ensures c.write_nodes-end.auto.1.1.0 _ c.write_outputs.auto.1.1.0
+write_trailer-requires c = trailer_asked _ _ _ c.requires _ _ c.write_nodes-end.ensures c.write_nodes-end.auto.out _ c.write_outputs.auto.out
 
 pub shape_of-out : goal.shape_of-out
-shape_of-out c = c.write_trailer.auto.1.0 ∙ c.write_outputs.auto.1.1.0 ∙ c.write_nodes-end.auto.1.1.0
+shape_of-out c = c.write_trailer.auto.out ∙ c.write_outputs.auto.out ∙ c.write_nodes-end.auto.out
 
 pub returns : goal.returns
 returns c = image_laid _ _ _ c.requires _ _ c.write_nodes-end.ensures _ _ c.write_outputs.ensures c.write_trailer.ensures

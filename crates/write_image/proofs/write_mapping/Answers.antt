@@ -11,7 +11,7 @@ pub word-requires : goal.word-requires
 word-requires c = mapping_read _ _ _ c.requires _ _ c.loop-i.invariant c.loop-i-test.true
 
 pub offset_bounds-map-i : goal.offset_bounds-map-i
-offset_bounds-map-i c = mapping_place _ _ _ c.requires _ _ c.loop-i.invariant c.loop-i-test.true c.type_inv.1.1.0.1
+offset_bounds-map-i c = mapping_place _ _ _ c.requires _ _ c.loop-i.invariant c.loop-i-test.true c.well_formed.1.1.0.1
 
 pub bounds-map-i : goal.bounds-map-i
 bounds-map-i c = mapping_room _ _ _ c.requires _ _ c.loop-i.invariant c.loop-i-test.true

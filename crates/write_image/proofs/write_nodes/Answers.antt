@@ -17,7 +17,7 @@ pub loop-v-smaller : goal.loop-v-smaller
 loop-v-smaller c = turn_less c.loop-v-test.true
 
 pub loop-v-preserved : goal.loop-v-preserved
-loop-v-preserved c = (turn_up c.loop-v-test.true, c.write_gate-at.auto.1.1.0 ∙ c.loop-v.invariant.1, nodes_next _ _ _ _ _ c.loop-v.invariant.2 _ _ c.write_gate-at.ensures)
+loop-v-preserved c = (turn_up c.loop-v-test.true, c.write_gate-at.auto.out ∙ c.loop-v.invariant.1, nodes_next _ _ _ _ _ c.loop-v.invariant.2 _ _ c.write_gate-at.ensures)
 
 pub shape_of-out : goal.shape_of-out
 shape_of-out c = c.loop-v.invariant.1

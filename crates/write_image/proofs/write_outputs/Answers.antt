@@ -11,7 +11,7 @@ pub overflow_mul-j : goal.overflow_mul-j
 overflow_mul-j c = outs_four _ _ _ _ c.requires _ _ c.loop-j.invariant c.loop-j-test.true
 
 pub overflow_add-at : goal.overflow_add-at
-overflow_add-at c = outs_at _ _ _ _ c.requires _ _ c.loop-j.invariant c.loop-j-test.true c.type_inv.1.1.0.0
+overflow_add-at c = outs_at _ _ _ _ c.requires _ _ c.loop-j.invariant c.loop-j-test.true c.well_formed.1.1.0.0
 
 pub output_at-requires : goal.output_at-requires
 output_at-requires c = outs_read _ _ _ _ c.requires _ _ c.loop-j.invariant c.loop-j-test.true
@@ -26,7 +26,7 @@ pub loop-j-smaller : goal.loop-j-smaller
 loop-j-smaller c = turn_less c.loop-j-test.true
 
 pub loop-j-preserved : goal.loop-j-preserved
-loop-j-preserved c = outs_next _ _ _ _ c.requires _ _ c.loop-j.invariant c.loop-j-test.true _ c.output_at.ensures _ c.put_word.auto.0 c.put_word.ensures
+loop-j-preserved c = outs_next _ _ _ _ c.requires _ _ c.loop-j.invariant c.loop-j-test.true _ c.output_at.ensures _ c.put_word.auto.dst c.put_word.ensures
 
 pub shape_of-out : goal.shape_of-out
 shape_of-out c = c.loop-j.invariant.1

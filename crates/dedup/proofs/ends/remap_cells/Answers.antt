@@ -23,7 +23,7 @@ pub loop-k-smaller : goal.loop-k-smaller
 loop-k-smaller c = turn_less c.loop-k-test.true
 
 pub loop-k-preserved : goal.loop-k-preserved
-loop-k-preserved c = cells_next _ _ c.requires _ _ c.loop-k.invariant c.loop-k-test.true _ _ _ c.input_at.ensures c.translate-s.ensures c.put_input.auto.0 c.put_input.ensures
+loop-k-preserved c = cells_next _ _ c.requires _ _ c.loop-k.invariant c.loop-k-test.true _ _ _ c.input_at.ensures c.translate-s.ensures c.put_input.auto.net c.put_input.ensures
 
 pub shape_of-to : goal.shape_of-to
 shape_of-to c = c.loop-k.invariant.1

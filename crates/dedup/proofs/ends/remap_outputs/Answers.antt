@@ -24,7 +24,7 @@ pub loop-o-smaller : goal.loop-o-smaller
 loop-o-smaller c = turn_less c.loop-o-test.true
 
 pub loop-o-preserved : goal.loop-o-preserved
-loop-o-preserved c = outs_next _ _ _ c.requires _ _ c.loop-o.invariant c.loop-o-test.true _ _ _ c.output_at.ensures c.translate-s.ensures c.put_output.auto.0 c.put_output.ensures
+loop-o-preserved c = outs_next _ _ _ c.requires _ _ c.loop-o.invariant c.loop-o-test.true _ _ _ c.output_at.ensures c.translate-s.ensures c.put_output.auto.net c.put_output.ensures
 
 pub shape_of-to : goal.shape_of-to
 shape_of-to c = c.loop-o.invariant.1

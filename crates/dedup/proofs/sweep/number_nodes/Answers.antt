@@ -23,7 +23,7 @@ pub loop-v-smaller : goal.loop-v-smaller
 loop-v-smaller c = turn_less c.loop-v-test.true
 
 pub loop-v-preserved : goal.loop-v-preserved
-loop-v-preserved c = number_next _ _ c.requires _ _ c.loop-v.invariant c.loop-v-test.true _ _ c.from_var.ensures c.put_word.auto.0 c.put_word.ensures
+loop-v-preserved c = number_next _ _ c.requires _ _ c.loop-v.invariant c.loop-v-test.true _ _ c.from_var.ensures c.put_word.auto.area c.put_word.ensures
 
 pub shape_of-to : goal.shape_of-to
 shape_of-to c = c.loop-v.invariant.1

@@ -30,7 +30,7 @@ pub loop-v-smaller : goal.loop-v-smaller
 loop-v-smaller c = turn_less c.loop-v-test.true
 
 pub loop-v-preserved : goal.loop-v-preserved
-loop-v-preserved c = (sweep_turn _ _ _ _ _ _ _ c.loop-v.invariant.0 c.loop-v-test.true _ _ c.kind_at.ensures (c.is_flip_flop.ensures ∙ ap is_flip_flop c.kind_of.ensures) c.if-is_flip_flop-cell.false _ _ c.dedup_node-built.ensures, turn_up c.loop-v-test.true, c.dedup_node-built.auto.1.0 ∙ c.loop-v.invariant.2)
+loop-v-preserved c = (sweep_turn _ _ _ _ _ _ _ c.loop-v.invariant.0 c.loop-v-test.true _ _ c.kind_at.ensures (c.is_flip_flop.ensures ∙ ap is_flip_flop c.kind_of.ensures) c.if-is_flip_flop-cell.false _ _ c.dedup_node-built.ensures, turn_up c.loop-v-test.true, c.dedup_node-built.auto.to ∙ c.loop-v.invariant.2)
 
 pub shape_of-to : goal.shape_of-to
 shape_of-to c = c.loop-v.invariant.2

@@ -16,7 +16,7 @@ pub enum_told-1 : goal.enum_told-1
 enum_told-1 c = c.in_default.keys2
 
 pub shape_of-to-in_default : goal.shape_of-to-in_default
-shape_of-to-in_default c = c.run-r.auto.1.0
+shape_of-to-in_default c = c.run-r.auto.to
 
 pub returns-in_default : goal.returns-in_default
 returns-in_default c = let pre = c.requires in
@@ -27,7 +27,7 @@ grow-requires c = let pre = c.requires in
     pass_ended _ _ _ _ _ pre.0 _ c.room_for-room.ensures pre.1 _ _ c.run-r.ensures _ c.in-To.is
 
 pub shape_of-to : goal.shape_of-to
-shape_of-to c = c.grow.auto.1.0 ∙ c.run-r.auto.1.0
+shape_of-to c = c.grow.auto.to ∙ c.run-r.auto.to
 
 pub returns : goal.returns
 returns c = let pre = c.requires in

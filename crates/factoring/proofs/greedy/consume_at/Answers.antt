@@ -37,7 +37,7 @@ pub overflow_add-result : goal.overflow_add-result
 overflow_add-result c = at_count _ _ _ _ _ c.requires.0 c.if-room-k.false
 
 pub shape_of-area : goal.shape_of-area
-shape_of-area c = c.replace_both.auto.0
+shape_of-area c = c.replace_both.auto.area
 
 pub returns : goal.returns
 returns c = at_done _ _ _ _ _ _ c.requires.0 c.requires.1 _ c.left_at.ensures c.if-left_at-ne2.false _ _ _ _ c.if-room-k.false c.start_at-f.ensures c.sig_at-a.ensures c.sig_at-b.ensures c.replace_both.ensures

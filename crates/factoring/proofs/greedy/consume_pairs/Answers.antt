@@ -36,4 +36,4 @@ pub loop-a-smaller : goal.loop-a-smaller
 loop-a-smaller c = turn_less c.if-room-m.false
 
 pub loop-a-preserved : goal.loop-a-preserved
-loop-a-preserved c = pairs_next _ _ _ _ _ _ _ c.loop-a.invariant _ c.find_best_pair-p.ensures _ _ c.in-Found.is _ c.if-room-m.false c.replace_pair.auto.0 c.replace_pair.ensures
+loop-a-preserved c = pairs_next _ _ _ _ _ _ _ c.loop-a.invariant _ c.find_best_pair-p.ensures _ _ c.in-Found.is _ c.if-room-m.false c.replace_pair.auto.area c.replace_pair.ensures

@@ -16,7 +16,7 @@ pub enum_told-1 : goal.enum_told-1
 enum_told-1 c = c.in_default.keys2
 
 pub shape_of-area-in_default : goal.shape_of-area-in_default
-shape_of-area-in_default c = c.consume_at-r.auto.0 ∙ c.loop-i.invariant.same
+shape_of-area-in_default c = c.consume_at-r.auto.area ∙ c.loop-i.invariant.same
 
 pub returns-in_default : goal.returns-in_default
 returns-in_default c = twos_full _ _ _ _ _ _ _ _ c.loop-i.invariant _ _ c.consume_at-r.ensures c.loop-i-test.true c.in_default.is
@@ -28,7 +28,7 @@ pub loop-i-smaller : goal.loop-i-smaller
 loop-i-smaller c = turn_less c.loop-i-test.true
 
 pub loop-i-preserved : goal.loop-i-preserved
-loop-i-preserved c = twos_next _ _ _ _ _ _ _ _ c.loop-i.invariant _ _ c.consume_at-r.ensures c.loop-i-test.true _ c.in-To.is c.consume_at-r.auto.0
+loop-i-preserved c = twos_next _ _ _ _ _ _ _ _ c.loop-i.invariant _ _ c.consume_at-r.ensures c.loop-i-test.true _ c.in-To.is c.consume_at-r.auto.area
 
 pub shape_of-area : goal.shape_of-area
 shape_of-area c = c.loop-i.invariant.same

@@ -21,7 +21,7 @@ pub put_sig-requires : goal.put_sig-requires
 put_sig-requires c = carry_to _ _ _ _ c.requires c.if-m-e.false
 
 pub shape_of-area : goal.shape_of-area
-shape_of-area c = c.put_sig.auto.0
+shape_of-area c = c.put_sig.auto.area
 
 pub returns : goal.returns
 returns c = carry_one _ _ _ _ _ _ c.if-m-e.false c.sig_at-s.ensures c.put_sig.ensures

@@ -29,4 +29,4 @@ pub loop-g-smaller : goal.loop-g-smaller
 loop-g-smaller c = round_less _ _ _ _ _ _ _ _ c.loop-g.invariant _ c.left_at-m.ensures c.if-m-le1.false c.if-room-t.false _ _ c.join_round-t.ensures
 
 pub loop-g-preserved : goal.loop-g-preserved
-loop-g-preserved c = round_next _ _ _ _ _ _ _ _ c.loop-g.invariant _ c.left_at-m.ensures c.if-m-le1.false c.if-room-t.false _ _ c.join_round-t.ensures c.join_round-t.auto.0
+loop-g-preserved c = round_next _ _ _ _ _ _ _ _ c.loop-g.invariant _ c.left_at-m.ensures c.if-m-le1.false c.if-room-t.false _ _ c.join_round-t.ensures c.join_round-t.auto.area

@@ -17,7 +17,7 @@ pub enum_told-1 : goal.enum_told-1
 enum_told-1 c = c.in_default.keys2
 
 pub shape_of-area-in_default : goal.shape_of-area-in_default
-shape_of-area-in_default c = c.join_gate-r.auto.0 ∙ c.loop-i.invariant.same
+shape_of-area-in_default c = c.join_gate-r.auto.area ∙ c.loop-i.invariant.same
 
 pub returns-in_default : goal.returns-in_default
 returns-in_default c = gates_full _ _ _ _ _ _ _ _ c.loop-i.invariant _ _ c.join_gate-r.ensures c.loop-i-test.true c.in_default.is
@@ -29,7 +29,7 @@ pub loop-i-smaller : goal.loop-i-smaller
 loop-i-smaller c = turn_less c.loop-i-test.true
 
 pub loop-i-preserved : goal.loop-i-preserved
-loop-i-preserved c = gates_next _ _ _ _ _ _ _ _ c.loop-i.invariant _ _ c.join_gate-r.ensures c.loop-i-test.true _ c.in-To.is c.join_gate-r.auto.0
+loop-i-preserved c = gates_next _ _ _ _ _ _ _ _ c.loop-i.invariant _ _ c.join_gate-r.ensures c.loop-i-test.true _ c.in-To.is c.join_gate-r.auto.area
 
 pub shape_of-area : goal.shape_of-area
 shape_of-area c = c.loop-i.invariant.same

@@ -15,7 +15,7 @@ pub loop-j-smaller : goal.loop-j-smaller
 loop-j-smaller c = turn_less c.loop-j-test.true
 
 pub loop-j-preserved : goal.loop-j-preserved
-loop-j-preserved c = pairs_step _ _ _ _ _ _ c.loop-j.invariant c.loop-j-test.true c.requires.1 c.requires.2 _ c.join_two.ensures c.join_two.auto.0
+loop-j-preserved c = pairs_step _ _ _ _ _ _ c.loop-j.invariant c.loop-j-test.true c.requires.1 c.requires.2 _ c.join_two.ensures c.join_two.auto.area
 
 pub shape_of-area : goal.shape_of-area
 shape_of-area c = c.loop-j.invariant.same

@@ -31,10 +31,10 @@ pub node_word-requires : goal.node_word-requires
 node_word-requires c = c.requires.2
 
 pub put_sig-requires : goal.put_sig-requires
-put_sig-requires c = two_sig _ _ _ _ c.requires _ c.put_pair.auto.0
+put_sig-requires c = two_sig _ _ _ _ c.requires _ c.put_pair.auto.area
 
 pub shape_of-area : goal.shape_of-area
-shape_of-area c = c.put_sig.auto.0 ∙ c.put_pair.auto.0
+shape_of-area c = c.put_sig.auto.area ∙ c.put_pair.auto.area
 
 pub returns : goal.returns
 returns c = two_done _ _ _ _ _ _ _ _ _ c.sig_at-a.ensures c.sig_at-b.ensures c.put_pair.ensures c.node_word.ensures c.put_sig.ensures

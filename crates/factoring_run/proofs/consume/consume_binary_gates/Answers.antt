@@ -14,7 +14,7 @@ pub enum_told-1 : goal.enum_told-1
 enum_told-1 c = c.in_default.keys2
 
 pub shape_of-area-in_default : goal.shape_of-area-in_default
-shape_of-area-in_default c = c.consume_twos-r.auto.0
+shape_of-area-in_default c = c.consume_twos-r.auto.area
 
 pub returns-in_default : goal.returns-in_default
 returns-in_default c = gates_full _ _ _ _ _ _ _ c.consume_twos-r.ensures c.in_default.is
@@ -23,7 +23,7 @@ pub consume_twos-requires : goal.consume_twos-requires
 consume_twos-requires c = ready_fewer _ _ _ _ _ _ (omega arith) (ready_next _ _ _ _ _ _ _ _ _ c.requires c.consume_twos-r.ensures c.in-To.is)
 
 pub shape_of-area : goal.shape_of-area
-shape_of-area c = c.consume_twos.auto.0 ∙ c.consume_twos-r.auto.0
+shape_of-area c = c.consume_twos.auto.area ∙ c.consume_twos-r.auto.area
 
 pub returns : goal.returns
 returns c = gates_done _ _ _ _ _ _ _ c.consume_twos-r.ensures _ c.in-To.is _ _ c.consume_twos.ensures

@@ -15,7 +15,7 @@ pub loop-h-smaller : goal.loop-h-smaller
 loop-h-smaller c = turn_less c.loop-h-test.true
 
 pub loop-h-preserved : goal.loop-h-preserved
-loop-h-preserved c = empty_next _ _ _ c.loop-h.invariant c.loop-h-test.true _ c.put_word.auto.0 c.put_word.ensures
+loop-h-preserved c = empty_next _ _ _ c.loop-h.invariant c.loop-h-test.true _ c.put_word.auto.area c.put_word.ensures
 
 pub shape_of-to : goal.shape_of-to
 shape_of-to c = c.loop-h.invariant.1

@@ -7,7 +7,7 @@ pub put_word-requires : goal.put_word-requires
 put_word-requires c = left_in _ _ c.requires
 
 pub shape_of-area : goal.shape_of-area
-shape_of-area c = c.put_word.auto.0
+shape_of-area c = c.put_word.auto.area
 
 pub returns : goal.returns
 unfolding put_left

@@ -10,7 +10,7 @@ pub put_left-requires : goal.put_left-requires
 put_left-requires c = pair_start _ _ _ _ c.put_start.ensures c.requires
 
 pub shape_of-area : goal.shape_of-area
-shape_of-area c = c.put_left.auto.0 ∙ c.put_start.auto.0
+shape_of-area c = c.put_left.auto.area ∙ c.put_start.auto.area
 
 pub returns : goal.returns
 returns c = pair_put _ _ _ _ _ _ c.put_start.ensures c.put_left.ensures

@@ -26,7 +26,7 @@ pub loop-j-smaller : goal.loop-j-smaller
 loop-j-smaller c = turn_less c.loop-j-test.true
 
 pub loop-j-preserved : goal.loop-j-preserved
-loop-j-preserved c = gather_next _ _ _ _ _ c.requires _ _ c.loop-j.invariant c.loop-j-test.true _ _ _ c.input_at.ensures c.looked_up-s.ensures c.put_word.auto.0 c.put_word.ensures
+loop-j-preserved c = gather_next _ _ _ _ _ c.requires _ _ c.loop-j.invariant c.loop-j-test.true _ _ _ c.input_at.ensures c.looked_up-s.ensures c.put_word.auto.area c.put_word.ensures
 
 pub shape_of-to : goal.shape_of-to
 shape_of-to c = c.loop-j.invariant.1

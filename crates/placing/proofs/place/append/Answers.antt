@@ -13,13 +13,13 @@ pub overflow_cast-n : goal.overflow_cast-n
 overflow_cast-n c = append_inputs _ _ _ c.requires.0
 
 pub put_gate-requires : goal.put_gate-requires
-put_gate-requires c = append_node _ _ _ c.requires.0 c.append_inputs.new.0 c.append_inputs.auto.0
+put_gate-requires c = append_node _ _ _ c.requires.0 c.append_inputs.new.0 c.append_inputs.auto.to
 
 pub put_table-requires : goal.put_table-requires
-put_table-requires c = append_node _ _ _ c.requires.0 c.put_gate.new.0 (c.put_gate.auto.0 ∙ c.append_inputs.auto.0)
+put_table-requires c = append_node _ _ _ c.requires.0 c.put_gate.new.0 (c.put_gate.auto.net ∙ c.append_inputs.auto.to)
 
 pub join-requires : goal.join-requires
-join-requires c = append_join _ _ _ c.requires.0 c.put_table.new.0 _ (c.put_table.auto.0 ∙ c.put_gate.auto.0 ∙ c.append_inputs.auto.0) c.requires.1
+join-requires c = append_join _ _ _ c.requires.0 c.put_table.new.0 _ (c.put_table.auto.net ∙ c.put_gate.auto.net ∙ c.append_inputs.auto.to) c.requires.1
 
 pub overflow_add-result : goal.overflow_add-result
 overflow_add-result c = append_nodes _ _ _ c.requires.0
@@ -28,7 +28,7 @@ pub overflow_add-result-2 : goal.overflow_add-result-2
 overflow_add-result-2 c = append_fanin _ _ _ c.requires.0
 
 pub shape_of-to : goal.shape_of-to
-shape_of-to c = c.join.auto.0 ∙ c.put_table.auto.0 ∙ c.put_gate.auto.0 ∙ c.append_inputs.auto.0
+shape_of-to c = c.join.auto.to ∙ c.put_table.auto.net ∙ c.put_gate.auto.net ∙ c.append_inputs.auto.to
 
 pub returns : goal.returns
 returns c = appended _ _ _ _ _ c.args.b _ _ _ _ _ _ c.append_inputs.ensures c.put_gate.ensures c.put_table.ensures c.join.ensures refl refl

@@ -23,7 +23,7 @@ pub loop-j-smaller : goal.loop-j-smaller
 loop-j-smaller c = turn_less c.loop-j-test.true
 
 pub loop-j-preserved : goal.loop-j-preserved
-loop-j-preserved c = append_next _ _ _ c.requires _ _ c.loop-j.invariant c.loop-j-test.true _ _ c.word-s.ensures c.put_input.auto.0 c.put_input.ensures
+loop-j-preserved c = append_next _ _ _ c.requires _ _ c.loop-j.invariant c.loop-j-test.true _ _ c.word-s.ensures c.put_input.auto.net c.put_input.ensures
 
 pub shape_of-to : goal.shape_of-to
 shape_of-to c = c.loop-j.invariant.1

@@ -17,7 +17,7 @@ pub returns-in-At : goal.returns-in-At
 returns-in-At c = place_found _ _ _ _ _ _ c.requires _ _ _ c.find_gate-f.ensures c.in-At.is refl refl
 
 pub shape_of-to-in-Nothing : goal.shape_of-to-in-Nothing
-shape_of-to-in-Nothing c = c.append-more.auto.0
+shape_of-to-in-Nothing c = c.append-more.auto.to
 
 pub returns-in-Nothing : goal.returns-in-Nothing
 returns-in-Nothing c = place_new _ _ _ _ _ _ c.requires _ _ _ _ _ c.bucket-h.ensures c.find_gate-f.ensures c.in-Nothing.is c.append-more.ensures refl refl

@@ -17,7 +17,7 @@ pub loop-k-smaller : goal.loop-k-smaller
 loop-k-smaller c = turn_less c.loop-k-test.true
 
 pub loop-k-preserved : goal.loop-k-preserved
-loop-k-preserved c = clear_next _ _ _ _ _ c.loop-k.invariant c.loop-k-test.true _ c.put_word.auto.0 c.put_word.ensures
+loop-k-preserved c = clear_next _ _ _ _ _ c.loop-k.invariant c.loop-k-test.true _ c.put_word.auto.area c.put_word.ensures
 
 pub shape_of-to : goal.shape_of-to
 shape_of-to c = c.loop-k.invariant.1

@@ -30,7 +30,7 @@ clear_areas-requires c = let w = c.work-r in
     areas_both _ _ _ refl c.requires w.new.1.1.1.0 w.auto.1.1.1.0 w.new.1.1.1.1.0 w.auto.1.1.1.1.0
 
 pub shape_of-out : goal.shape_of-out
-shape_of-out c = c.work-r.auto.1.1.0
+shape_of-out c = c.work-r.auto.out
 
 pub shape_of-a : goal.shape_of-a
 shape_of-a c = let k = c.clear_areas in

@@ -1,3 +1,5 @@
+use mathlib.Core.Path.{ap}
+use mathlib.Core.Bool.{not}
 use native.Mathlib.Omega.{arith}
 use borrow.Author.Rules.{rules}
 use Rattle.uses.proofs.Walks.{uses_next, uses_counts}
@@ -28,7 +30,7 @@ pub loop-v-smaller : goal.loop-v-smaller
 loop-v-smaller c = search (rules, uses_counts)
 
 pub loop-v-preserved : goal.loop-v-preserved
-loop-v-preserved c = uses_next _ _ _ _ _ _ c.loop-v.invariant (omega arith) _ c.takes.ensures c.if-not-takes.false _ c.count_gate.ensures (search rules)
+loop-v-preserved c = uses_next _ _ _ _ _ _ c.loop-v.invariant (omega arith) _ c.takes.ensures (ap not c.if-not-takes.false) _ c.count_gate.ensures (search rules)
 
 pub shape_of-to : goal.shape_of-to
 shape_of-to c = search (rules, uses_counts)

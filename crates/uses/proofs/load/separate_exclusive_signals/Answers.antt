@@ -1,3 +1,5 @@
+use mathlib.Core.Path.{ap}
+use mathlib.Core.Bool.{not}
 use native.Mathlib.Omega.{arith}
 use borrow.Author.Rules.{rules}
 use Rattle.uses.proofs.Loads.{load_next, separates}
@@ -37,7 +39,7 @@ pub loop-v-smaller : goal.loop-v-smaller
 loop-v-smaller c = search (rules, separates)
 
 pub loop-v-preserved : goal.loop-v-preserved
-loop-v-preserved c = load_next _ _ _ _ _ _ _ _ c.loop-v.invariant c.requires (omega arith) _ c.takes.ensures c.if-not-takes.false _ _ c.load_gate.ensures (search rules) c.count_at-at.ensures
+loop-v-preserved c = load_next _ _ _ _ _ _ _ _ c.loop-v.invariant c.requires (omega arith) _ c.takes.ensures (ap not c.if-not-takes.false) _ _ c.load_gate.ensures (search rules) c.count_at-at.ensures
 
 pub shape_of-to : goal.shape_of-to
 shape_of-to c = search (rules, separates)
