@@ -9,7 +9,7 @@ pub const WORD: u32 = 0xA5A5_A5A5;
 // Puts src to the front; nothing where it has no room.
 pub fn put(src: &[u8], dst: &mut [u8]) {
     if src.len() <= dst.len() {
-        bytes::copy(src, dst);
+        dst[..src.len()].copy_from_slice(src);
     }
 }
 

@@ -1,8 +1,7 @@
 // A hand case's line: where its fields are, and the words of its image, in decimal, as the bytes of a record.
-ghost use Rattle.std.specs.Prelude.{◌≤◌, ◌<◌, length};
+ghost use Rattle.std.specs.Prelude.{◌≡◌, ℕ, ◌≤◌, ◌<◌, ◌≢◌, length, slice_index};
 
 use crate::HEAD;
-use bytes::scan::find;
 use words::put_word;
 
 // A number with one digit more; as it is where c is none.
@@ -41,6 +40,19 @@ pub fn put(dst: &mut [u8], at: usize, w: u32) -> usize
     at + 4
 }
 
+// Where a text has the byte first, from `from` on; the text's length where it does not.
+pub fn find(text: &[u8], from: usize, byte: u8) -> usize
+    requires { from ≤ length text.now }
+    ensures within { (from ≤ result) × (result ≤ length text.now) }
+    ensures before { (k : ℕ) → from ≤ k → k < result → slice_index text.now k ≢ byte }
+    ensures found { result < length text.now → slice_index text.now result ≡ byte }
+{
+    match text[from..].iter().position(|b| *b == byte) {
+        Some(i) => from + i,
+        None => text.len(),
+    }
+}
+
 // The words of a text, a space before each, behind the head of a record; answers the place behind them.
 pub fn put_image(dst: &mut [u8], text: &[u8]) -> usize
     requires { 64 ≤ length dst.old }
@@ -50,7 +62,7 @@ pub fn put_image(dst: &mut [u8], text: &[u8]) -> usize
     let mut space: usize = 0;
     while space < text.len() {
         let from = space + 1;
-        space = find(text, from, text.len(), b' ');
+        space = find(text, from, b' ');
         at = put(dst, at, number(&text[from..space]));
     }
     at

@@ -1,7 +1,12 @@
 // A file of recorded answers: read, its head looked at, and what is told of it in the end.
+ghost use Rattle.std.specs.Io.{ReadsAtMost};
+
 use crate::telling::{print, print_number};
 use crate::word;
-use libc::STDOUT_FILENO;
+use reading::read_full;
+use std::fs::{File, Files};
+use std::io;
+use std::io::Write;
 
 // The bytes `LLRA`.
 const MAGIC: u32 = 1095912524;
@@ -17,19 +22,29 @@ pub fn count(file: &[u8], entry: u32) -> u32 {
 }
 
 // The rest of a file's line.
-pub fn print_counts(inputs: u32, differ: u32, is_whole: bool) {
+pub fn print_counts<W: Write>(
+    out: &mut W,
+    inputs: u32,
+    differ: u32,
+    is_whole: bool,
+) -> io::Result<()> {
     if !is_whole {
-        return print(STDOUT_FILENO, b": damaged\n");
+        return print(out, b": damaged\n");
     }
-    print_number(STDOUT_FILENO, b": ", inputs as u64);
-    print_number(STDOUT_FILENO, b" inputs, ", differ as u64);
-    print(STDOUT_FILENO, b" differ\n");
+    print_number(out, b": ", inputs as u64)?;
+    print_number(out, b" inputs, ", differ as u64)?;
+    print(out, b" differ\n")
 }
 
 // Reads a file; answers how many bytes it has, none where it is not there.
-pub fn read(path: &[u8], file: &mut [u8]) -> usize {
-    let fd = os::open_read(path);
-    let n = io::read_full(fd, file);
-    libc::close(fd);
-    n
+pub fn read<R: Files>(rt: &R, path: &[u8], file: &mut [u8]) -> io::Result<usize>
+    ensures { ReadsAtMost result file.new }
+{
+    let Ok(path) = str::from_utf8(path) else {
+        return Ok(0);
+    };
+    match File::open(rt, path) {
+        Ok(mut opened) => read_full(&mut opened, file),
+        Err(_) => Ok(0),
+    }
 }

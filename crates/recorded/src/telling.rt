@@ -1,30 +1,32 @@
-// Texts, numbers and images to a descriptor.
-use libc::STDOUT_FILENO;
+// Texts, numbers and images to a writer.
+use std::io;
+use std::io::Write;
 use words::nth;
 
-pub fn print(fd: i32, text: &[u8]) {
-    io::write_all(fd, text);
+pub fn print<W: Write>(out: &mut W, text: &[u8]) -> io::Result<()> {
+    out.write_all(text)
 }
 
 // A number behind a text.
-pub fn print_number(fd: i32, text: &[u8], n: u64) {
-    print(fd, text);
-    io::print_decimal(fd, n);
+pub fn print_number<W: Write>(out: &mut W, text: &[u8], n: u64) -> io::Result<()> {
+    print(out, text)?;
+    write!(out, "{n}")
 }
 
 // The words of an image, a space before each.
-fn print_words(image: &[u8]) {
+fn print_words<W: Write>(out: &mut W, image: &[u8]) -> io::Result<()> {
     let mut i: usize = 0;
     while i < image.len() / 4 {
-        print_number(STDOUT_FILENO, b" ", nth(image, i) as u64);
+        print_number(out, b" ", nth(image, i) as u64)?;
         i += 1;
     }
+    Ok(())
 }
 
 // An image of more than 32 words only by its length.
-pub fn print_image(image: &[u8]) {
+pub fn print_image<W: Write>(out: &mut W, image: &[u8]) -> io::Result<()> {
     if image.len() <= 128 {
-        return print_words(image);
+        return print_words(out, image);
     }
-    print_number(STDOUT_FILENO, b" accepted, bytes ", image.len() as u64);
+    print_number(out, b" accepted, bytes ", image.len() as u64)
 }

@@ -6,11 +6,11 @@ ghost use Rattle.std.specs.Prelude.{◌≤◌};
 use crate::entries::{CODES, EVALUATE, name};
 use crate::replaying::lend;
 use answers::Answer;
-use bytes::scan::find;
-use libc::STDOUT_FILENO;
 use recorded::buffers::slice;
-use recorded::hand::{behind_colon, put, put_image};
+use recorded::hand::{behind_colon, find, put, put_image};
 use recorded::telling::{print, print_image, print_number};
+use std::io;
+use std::io::Write;
 
 // The flattening limit of document 01's example.
 const LIMIT: u32 = 64;
@@ -20,10 +20,10 @@ fn printed_len(entry: u32, len: usize) -> usize {
     if entry == EVALUATE { 4 } else { len }
 }
 
-fn print_answer(entry: u32, r: Answer, out: &[u8]) {
+fn print_answer<W: Write>(to: &mut W, entry: u32, r: Answer, out: &[u8]) -> io::Result<()> {
     match r {
-        Answer::Refused(n) => print_number(STDOUT_FILENO, b" refused ", n as u64),
-        Answer::Accepted(len) => print_image(slice(out, 0, printed_len(entry, len))),
+        Answer::Refused(n) => print_number(to, b" refused ", n as u64),
+        Answer::Accepted(len) => print_image(to, slice(out, 0, printed_len(entry, len))),
     }
 }
 
@@ -34,7 +34,7 @@ fn cycles(entry: u32) -> u32
 }
 
 // Runs the entry on buffers of its own and prints what came out.
-fn show(entry: u32, record: &[u8]) {
+fn show<W: Write>(to: &mut W, entry: u32, record: &[u8]) -> io::Result<()> {
     let mut out = [0u8; 1024];
     let mut map = [0u32; 512];
     let mut state = [0u8; 512];
@@ -45,19 +45,19 @@ fn show(entry: u32, record: &[u8]) {
         let r = lend(
             entry, record, &mut out, &mut map, &mut state, &mut a, &mut b,
         );
-        print_answer(entry, r, &out);
+        print_answer(to, entry, r, &out)?;
         k += 1;
     }
-    print(STDOUT_FILENO, b"\n");
+    print(to, b"\n")
 }
 
 // Shows the entry on the image that a text has, lent all that `show` has.
-fn show_image(entry: u32, text: &[u8]) {
+fn show_image<W: Write>(to: &mut W, entry: u32, text: &[u8]) -> io::Result<()> {
     let mut record = [255u8; 4096];
     let end = put_image(&mut record, text);
     put(&mut record, 0, end as u32 - 64);
     put(&mut record, 4, LIMIT);
-    show(entry, &record);
+    show(to, entry, &record)
 }
 
 // The entry whose name a text begins with, behind a space.
@@ -65,7 +65,7 @@ fn entry_of(names: &[u8], text: &[u8]) -> u32 {
     let mut entry: u32 = 0;
     while entry < CODES {
         let name = name(names, entry, 0);
-        if check::same(name, slice(text, 1, name.len())) {
+        if name == slice(text, 1, name.len()) {
             return entry;
         }
         entry += 1;
@@ -73,22 +73,23 @@ fn entry_of(names: &[u8], text: &[u8]) -> u32 {
     CODES
 }
 
-fn show_line(names: &[u8], line: &[u8]) {
+fn show_line<W: Write>(to: &mut W, names: &[u8], line: &[u8]) -> io::Result<()> {
     let image = behind_colon(line, line.len());
     if image == 0 {
-        return;
+        return Ok(());
     }
     let entry = behind_colon(line, image - 1);
-    print(STDOUT_FILENO, slice(line, 0, image));
-    show_image(entry_of(names, &line[entry..]), &line[image..]);
+    print(to, slice(line, 0, image))?;
+    show_image(to, entry_of(names, &line[entry..]), &line[image..])
 }
 
 // The first line is a heading.
-pub fn show_all(names: &[u8], text: &[u8]) {
-    let mut end = find(text, 0, text.len(), b'\n');
+pub fn show_all<W: Write>(to: &mut W, names: &[u8], text: &[u8]) -> io::Result<()> {
+    let mut end = find(text, 0, b'\n');
     while end < text.len() {
         let from = end + 1;
-        end = find(text, from, text.len(), b'\n');
-        show_line(names, &text[from..end]);
+        end = find(text, from, b'\n');
+        show_line(to, names, &text[from..end])?;
     }
+    Ok(())
 }

@@ -4,7 +4,8 @@
 
 ghost use Rattle.std.specs.Prelude.{◌≡◌, length};
 
-use libc::STDIN_FILENO;
+use reading::read_full;
+use std::io;
 
 mod cases;
 mod entries;
@@ -18,12 +19,12 @@ fn room() -> [u8; 1048576]
     [0; 1048576]
 }
 
-fn main() {
+fn main(rt: HostRuntime) -> io::Result<()> {
     // each entry's file, 16 bytes for each, in the order of the codes
     let names =
         b"read.bin        canonical.bin   dedup.bin       cleanup.bin     sort.bin        flatten.bin     factor.bin      share.bin       evaluate.bin    record.bin      ";
     let mut file = room();
-    let n = io::read_full(STDIN_FILENO, &mut file);
-    cases::show_all(names, &file[..n]);
-    files::replay_all(names, &mut file);
+    let n = read_full(&mut rt.stdin(), &mut file)?;
+    cases::show_all(&mut rt.stdout(), names, &file[..n])?;
+    files::replay_all(&rt, &mut rt.stdout(), &mut rt.stderr(), names, &mut file)
 }

@@ -1,13 +1,14 @@
 // One record: the entry run on buffers as long as those that were lent, and all that it left compared.
-ghost use Rattle.std.specs.Prelude.{◌≤◌};
+ghost use Rattle.std.specs.Prelude.{◌≤◌, IfOk};
 
 use crate::entries::{EVALUATE, part_start, run};
 use answers::{Answer, length, number};
-use libc::STDERR_FILENO;
 use recorded::buffers::{BYTE, WORD, put};
 use recorded::comparing::{expect, has, has_area, has_mapping};
 use recorded::telling::{print, print_number};
 use recorded::{comparing, part, size, state_part, word};
+use std::io;
+use std::io::Write;
 
 // How much was lent of a buffer of len elements: word k, which is no more than that in a record within bounds.
 fn lent(record: &[u8], k: usize, len: usize) -> usize
@@ -62,21 +63,26 @@ pub fn lend(
     )
 }
 
-fn is_answer(entry: u32, record: &[u8], r: Answer) -> bool {
-    expect(
-        comparing::NUMBER,
-        number(r) == word(record, recorded::NUMBER),
-    ) & expect(
-        comparing::LENGTH,
-        length(r) == size(record, recorded::LENGTH),
-    ) & expect(
-        comparing::START,
-        part_start(entry, record) == size(record, recorded::START),
+fn is_answer<W: Write>(err: &mut W, entry: u32, record: &[u8], r: Answer) -> io::Result<bool> {
+    Ok(
+        expect(
+            err,
+            comparing::NUMBER,
+            number(r) == word(record, recorded::NUMBER),
+        )? & expect(
+            err,
+            comparing::LENGTH,
+            length(r) == size(record, recorded::LENGTH),
+        )? & expect(
+            err,
+            comparing::START,
+            part_start(entry, record) == size(record, recorded::START),
+        )?,
     )
 }
 
 // Whether the entry does what is recorded. Each buffer has more elements than are lent at most, to be found untouched.
-fn is_same(entry: u32, record: &[u8]) -> bool {
+fn is_same<W: Write>(err: &mut W, entry: u32, record: &[u8]) -> io::Result<bool> {
     let mut out = [BYTE; 16640];
     let mut map = [WORD; 576];
     let mut state = [BYTE; 640];
@@ -86,23 +92,25 @@ fn is_same(entry: u32, record: &[u8]) -> bool {
     let r = lend(
         entry, record, &mut out, &mut map, &mut state, &mut a, &mut b,
     );
-    is_answer(entry, record, r)
-        & has(comparing::OUT, record, out_part(entry), &out)
-        & has_mapping(record, &map)
-        & has(comparing::STATE, record, state_part(record), &state)
-        & has_area(comparing::FIRST, record, recorded::FIRST, &a)
-        & has_area(comparing::SECOND, record, recorded::SECOND, &b)
+    Ok(
+        is_answer(err, entry, record, r)?
+            & has(err, comparing::OUT, record, out_part(entry), &out)?
+            & has_mapping(err, record, &map)?
+            & has(err, comparing::STATE, record, state_part(record), &state)?
+            & has_area(err, comparing::FIRST, record, recorded::FIRST, &a)?
+            & has_area(err, comparing::SECOND, record, recorded::SECOND, &b)?,
+    )
 }
 
 // Replays a record, number k of its file; answers how many differ, 0 or 1.
-pub fn replay(record: &[u8], entry: u32, k: u32) -> u32
-    ensures { result ≤ 1 }
+pub fn replay<W: Write>(err: &mut W, record: &[u8], entry: u32, k: u32) -> io::Result<u32>
+    ensures { IfOk result (λ n. n ≤ 1) }
 {
-    if is_same(entry, record) {
-        return 0;
+    if is_same(err, entry, record)? {
+        return Ok(0);
     }
-    print_number(STDERR_FILENO, b"differ in record ", k as u64);
-    print_number(STDERR_FILENO, b" of entry ", entry as u64);
-    print(STDERR_FILENO, b"\n");
-    1
+    print_number(err, b"differ in record ", k as u64)?;
+    print_number(err, b" of entry ", entry as u64)?;
+    print(err, b"\n")?;
+    Ok(1)
 }

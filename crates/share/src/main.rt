@@ -8,11 +8,13 @@ ghost use Rattle.tables.specs.Working.{Answered};
 ghost use Rattle.share.specs.Texts.{refused_text, list_outcome, text_for, printed_of, Shown, Lent};
 
 use answers::Answer;
-use libc::{STDIN_FILENO, STDOUT_FILENO};
 use listing::listing;
 use listing::text::{put_all, put_number};
 use load::{Loaded, load_image};
+use reading::read_full;
 use sharing::share::share;
+use std::io;
+use std::io::Write;
 use text_parts::put;
 use words::word_at;
 
@@ -69,13 +71,13 @@ fn answer(input: &[u8], out: &mut [u8], a: &mut [u32], b: &mut [u32], text: &mut
     }
 }
 
-fn main() {
+fn main(rt: HostRuntime) -> io::Result<()> {
     let mut input = [0u8; 16385];
     let mut out = [0u8; 16384];
     let mut a = [0u32; 16384];
     let mut b = [0u32; 16384];
     let mut text = [0u8; 32768];
-    let n = io::read_full(STDIN_FILENO, &mut input);
+    let n = read_full(&mut rt.stdin(), &mut input)?;
     let len = answer(&input[..n], &mut out, &mut a, &mut b, &mut text);
-    io::write_all(STDOUT_FILENO, &text[..len]);
+    rt.stdout().write_all(&text[..len])
 }
