@@ -47,10 +47,12 @@ pub fn find(text: &[u8], from: usize, byte: u8) -> usize
     ensures before { (k : ℕ) → from ≤ k → k < result → slice_index text.now k ≢ byte }
     ensures found { result < length text.now → slice_index text.now result ≡ byte }
 {
-    match text[from..].iter().position(|b| *b == byte) {
-        Some(i) => from + i,
-        None => text.len(),
+    for at in from..text.len() {
+        if text[at] == byte {
+            return at;
+        }
     }
+    text.len()
 }
 
 // The words of a text, a space before each, behind the head of a record; answers the place behind them.

@@ -1,14 +1,21 @@
 // Texts, numbers and images to a writer.
+ghost use Rattle.std.specs.Prelude.{◌++◌, OnOk, decimal};
+ghost use Rattle.std.specs.Io.KnownBytes.{Appends};
+
 use std::io;
 use std::io::Write;
 use words::nth;
 
-pub fn print<W: Write>(out: &mut W, text: &[u8]) -> io::Result<()> {
+pub fn print<W: Write>(out: &mut W, text: &[u8]) -> io::Result<()>
+    ensures { OnOk result (Appends (W.contents out.old) (W.contents out.new) text.now) }
+{
     out.write_all(text)
 }
 
 // A number behind a text.
-pub fn print_number<W: Write>(out: &mut W, text: &[u8], n: u64) -> io::Result<()> {
+pub fn print_number<W: Write>(out: &mut W, text: &[u8], n: u64) -> io::Result<()>
+    ensures { OnOk result (Appends (W.contents out.old) (W.contents out.new) (text.now ++ decimal n)) }
+{
     print(out, text)?;
     write!(out, "{n}")
 }
