@@ -31,7 +31,7 @@ pub overflow_add-result-4 : goal.overflow_add-result-4
 overflow_add-result-4 c = gate_free _ _ _ _ c.requires _ c.nth-h.ensures _ c.wide-n.ensures
 
 pub shape_of-to : goal.shape_of-to
-shape_of-to c = c.load_table-extra.auto.to.1.1.0 ∙ c.put_gate.auto.net ∙ c.load_inputs.auto.to.1.0
+shape_of-to c = c.load_table-extra.auto.to ∙ c.put_gate.auto.net ∙ c.load_inputs.auto.to
 
 pub returns : goal.returns
 returns c = gate_placed _ _ _ _ c.requires _ c.nth-h.ensures _ c.wide-n.ensures _ _ _ _ c.load_inputs.ensures c.put_gate.ensures c.load_table-extra.ensures

@@ -17,7 +17,7 @@ pub loop-v-smaller : goal.loop-v-smaller
 loop-v-smaller c = turn_less c.loop-v-test.true
 
 pub loop-v-preserved : goal.loop-v-preserved
-loop-v-preserved c = (turn_up c.loop-v-test.true, c.load_gate-p.auto.to.1.0 ∙ c.loop-v.invariant.1, loading_next _ _ _ c.requires _ _ _ c.loop-v.invariant.2 c.loop-v-test.true _ _ c.load_gate-p.ensures)
+loop-v-preserved c = (turn_up c.loop-v-test.true, c.load_gate-p.auto.to ∙ c.loop-v.invariant.1, loading_next _ _ _ c.requires _ _ _ c.loop-v.invariant.2 c.loop-v-test.true _ _ c.load_gate-p.ensures)
 
 pub shape_of-to : goal.shape_of-to
 shape_of-to c = c.loop-v.invariant.1
