@@ -1,7 +1,5 @@
--- `copy_inputs`: what its loop keeps, and each need by its law.
-use mathlib.Core.Path.{◌≡◌}
-use Prim.Native.Nat.{◌-◌, ◌≤◌}
-use lib.ListN.{length}
+-- `copy_inputs`: what its loop keeps.
+use Rattle.std.proofs.Common.{◌≡◌, ◌-◌, ◌≤◌, length}
 use Rattle.normal_forms.proofs.records.copy_inputs.Given as goal
 
 abbrev pub invariant-loop-i : goal.invariant-loop-i

@@ -1,7 +1,5 @@
--- `put_signals`: what its loop keeps, and each need by its law.
-use mathlib.Core.Path.{◌≡◌}
-use Prim.Native.Nat.{◌-◌, ◌≤◌}
-use lib.ListN.{length}
+-- `put_signals`: what its loop keeps.
+use Rattle.std.proofs.Common.{◌≡◌, ◌-◌, ◌≤◌, length}
 use Rattle.normal_forms.proofs.text.put_signals.Given as goal
 
 abbrev pub invariant-loop-i : goal.invariant-loop-i

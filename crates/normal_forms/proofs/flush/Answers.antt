@@ -1,8 +1,0 @@
--- `flush`: each need by its law.
-use mathlib.Core.Path.{sym}
-use lib.Seq.{length-take-le}
-use borrow.Author.Rules.{rules}
-use Rattle.normal_forms.proofs.flush.Goals as goal
-
-pub slice_bounds-write_all-end : goal.slice_bounds-write_all-end
-slice_bounds-write_all-end c = sym (length-take-le _ _ (search rules))
