@@ -1,10 +1,10 @@
 -- Texts at the front of a lent buffer: what each function met, and what it shows.
-use mathlib.Core.Path.{◌≡◌, sym, ap, ◌∙◌, subst}
+use mathlib.Core.Path.{◌≡◌, sym, ap, ◌∙◌}
 use Prim.Native.Nat.{ℕ, ◌+◌, ◌-◌, ◌≤◌, ◌<◌, ◌^◌}
 use native.Mathlib.Omega.{arith}
 use mathlib.Core.Bool.{◌&&◌}
 use mathlib.Core.List.{List, [], ◌∷◌, ◌++◌, append_assoc}
-use lib.ListN.{length, take, drop, length-append, replicate, length-replicate}
+use lib.ListN.{length, take, drop, length-append}
 use lib.Seq.{take_at}
 use lib.Dec.{eqb, leb}
 use borrow.Author.Tests.{lt-ltb, le-ltb}
@@ -14,12 +14,11 @@ use Rattle.laws.proofs.Choices.{by_bool}
 use Rattle.model.specs.Answers.{Outcome, refused, written, evaluated, answer_of, result_after, laid_over, areas_short, in_areas, in_room, unless, Kept}
 use Rattle.model.specs.Image.{refusal_of, net_of}
 use Rattle.model.specs.Listing.{ascii, decimal, line, spaced, listing_of}
-use Rattle.tables.specs.Layout.{net_size}
 use Rattle.tables.specs.Working.{Answered}
 use Rattle.text_parts.specs.Putting.{Put}
 use Rattle.listing.proofs.Decimals.{decimal_short}
 use Rattle.text_parts.proofs.Puts.{put_then, put_as, put_text_laid}
-use Rattle.share.specs.Texts.{refused_text, list_outcome, text_for, printed_for, printed_of, Shown, Lent}
+use Rattle.share.specs.Texts.{refused_text, list_outcome, text_for, printed_for, printed_of, Shown}
 
 -- ---- refuse
 
@@ -44,18 +43,6 @@ refused_shown n {b} {b1} {b2} {b3} {p} {q} {r} h l m P1 P2 P3 =
       room = omega arith;
     }
 
--- ---- the program's own buffers
-
-pub lent_zeros : (m n : ℕ) → net_size ≤ m → 32768 ≤ n → Lent (replicate m 0) (replicate n 0)
-lent_zeros m n h k = record {
-  long = subst (λ (x : ℕ). net_size ≤ x) (sym (length-replicate {0} {A = ℕ} m 0)) h;
-  room = subst (λ (x : ℕ). 32768 ≤ x) (sym (length-replicate {0} {A = ℕ} n 0)) k;
-}
-
--- a text is within the buffer that it was shown in
-pub shown_within : (text b b' : List ℕ) (r n : ℕ) → Shown text b b' r → length b ≡ n → length b' ≡ n → r ≤ length b'
-shown_within text b b' r n S e f = let x = S.end in let y = S.room in omega arith
-
 -- ---- an outcome that is no cycle's
 
 unfoldable pub Plain : Outcome → Type 0
@@ -75,6 +62,7 @@ pub plain_room : (room mapping : ℕ) (o : Outcome) → Plain o → Plain (in_ro
 unfolding Plain
 plain_room room mapping (refused n) h = tt
 plain_room room mapping (written w m) h = by_bool (leb (length w) room && leb (length m) mapping) (λ e. rw e tt) (λ e. rw e tt)
+plain_room room mapping (evaluated _ _) h = elim h [ ]
 
 pub plain_areas : (a b : List ℕ) (o : Outcome) → Plain o → Plain (in_areas a b o)
 unfolding Plain in_areas
@@ -104,6 +92,7 @@ outcome_written : (o : Outcome) → Plain o → (b : List ℕ) (n : ℕ) (b1 : L
 unfolding Plain
 outcome_written (refused m) h b n b1 e f l = let z : ◌≡◌ {A = ℕ} 0 1 = cc in absurd (omega arith)
 outcome_written (written w m) h b n b1 e f l = record { bytes = f; end = cc; room = laid_room w b (ap length (sym f) ∙ l) }
+outcome_written (evaluated _ _) h b n b1 e f l = elim h [ ]
 
 module _ (img b : List ℕ) (x : Answer) (b1 : List ℕ) (D : Answered (list_outcome img (length b)) b x b1) where
   pub show_refused : (n : ℕ) → x ≡ Refused n → (b2 : List ℕ) (p : ℕ) → Shown (refused_text n) b1 b2 p → Shown (text_for (list_outcome img (length b))) b b2 p
@@ -130,6 +119,7 @@ module _ (text t' : List ℕ) (r : ℕ) where
       let z : n ≡ length w = cc in
       let i : take n out1 ≡ w = ap (take n) f ∙ take_at w (drop (length w) out) n (sym z) in
       rw i at S
+  printed_listed (evaluated _ _) h out n out1 e f S = elim h [ ]
 
 module _ (input out a b text t' : List ℕ) (r : ℕ) where
   pub answer_short : length input < 4 → Shown (refused_text 2) text t' r → Shown (printed_of input out a b (length text)) text t' r
