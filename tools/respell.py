@@ -13,9 +13,9 @@ import glob
 import re
 import sys
 
-NAME = r"[^\s(){}\[\].;,@\"«»]+"
+NAME = r"[^\s(){}\[\].;,@\"«»`]+"
 TOKEN = re.compile(NAME)
-DECLARED = re.compile(rf"^( *)((?:(?:pub|abbrev|unfoldable) +)*)(record |data |ruleset |module )?({NAME})( .*)?$")
+DECLARED = re.compile(rf"^( *)((?:(?:pub|abbrev|unfoldable) +)*)(record |data |ruleset |module )?({NAME})(?: \{{[^}}]*\}})*( .*)?$")
 
 
 # a constructor whose name a definition takes

@@ -3,14 +3,14 @@
 -- `(x : A) → P` says: for every x of A, P. `P → Q`: if P, then Q. `P × Q`: P and Q. `P ↔ Q`: P exactly when Q. `a ≡ b`: a is b.
 -- What a line `module _ ..` supposes is supposed in all that is set in below it. A line that begins with the name of the statement above
 -- it is that statement's proof. The words are defined in crates/model/specs; the main ones:
---   net_of img, image_of N     the network that an image holds; the image of a network
---   Valid, is_topo_sorted      what an image's network is when the numbers 2 to 6, and 7, are not met
---   run_from_zero N is         the outputs of every cycle, the flip-flops starting at zero; `is` has the inputs of each cycle, as many
+--   net_of img, image_of N   the network that an image holds; the image of a network
+--   Valid, is_topo_sorted    what an image's network is when the numbers 2 to 6, and 7, are not met
+--   run_from_zero N is       the outputs of every cycle, the flip-flops starting at zero; `is` has the inputs of each cycle, as many
 --                            cycles as one likes. `run N st is` starts from the states st
 --   Kept, Kept2              the contract of every entry: its answer r, and the slices at exit (primed) from those at entry
 -- and in crates/meaning/proofs/PromisedMappings:
---   signal_in N st is i s     the value of signal s in the cycle with inputs i, after cycles with inputs `is` from the states st
---   node_in N st is i n       the value of node n in that cycle
+--   signal_in N st is i s    the value of signal s in the cycle with inputs i, after cycles with inputs `is` from the states st
+--   node_in N st is i n      the value of node n in that cycle
 use mathlib.Core.Path.{◌≡◌, ◌∙◌}
 use mathlib.Core.Logic.Iff
 use mathlib.Core.Logic.{◌↔◌, ◌≢◌}
