@@ -1,5 +1,5 @@
 #!/usr/bin/env python3
-"""Spells the repository's own definitions, lemmas, fields and constructors in snake case, after /opt/rattle/port/port.py has run.
+"""Spells the repository's own definitions, lemmas, fields and constructors in snake case, after the kit's port/port.py has run.
 
 usage: tools/respell.py [--list]      once, at the top of the repository; --list prints each old name with its new one and writes nothing
 
@@ -13,9 +13,9 @@ import glob
 import re
 import sys
 
-NAME = r"[^\s(){}\[\].;,@\"«»]+"
+NAME = r"[^\s(){}\[\].;,@\"«»`]+"
 TOKEN = re.compile(NAME)
-DECLARED = re.compile(rf"^( *)((?:(?:pub|abbrev|unfoldable) +)*)(record |data |ruleset |module )?({NAME})( .*)?$")
+DECLARED = re.compile(rf"^( *)((?:(?:pub|abbrev|unfoldable) +)*)(record |data |ruleset |module )?({NAME})(?: \{{[^}}]*\}})*( .*)?$")
 
 
 # a constructor whose name a definition takes

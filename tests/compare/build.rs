@@ -169,8 +169,9 @@ fn find_entries(repository: &Path, manifest: &Path, out: &Path) {
     let library = match env::var_os("LANTERNLEAN_LIB") {
         Some(path) => PathBuf::from(path),
         None => repository
-            .join("target")
-            .join("staticlib")
+            .join("crates")
+            .join("exports")
+            .join("out")
             .join("libexports.a"),
     };
     println!("cargo::rerun-if-changed={}", library.display());

@@ -10,7 +10,7 @@ use lib.ListN.{length}
 use lib.Dec.{eqb}
 use mir.Val.{Fits}
 use mir.Syntax.{w64}
-use Rattle.laws.proofs.Bools.{true-false}
+use Rattle.laws.proofs.Bools.{true_false}
 use Rattle.kinds.specs.Kinds.{kind_of, is_flip_flop}
 use Rattle.model.specs.Signal.{flip, from_var}
 use Rattle.model.specs.Gate.{Gate, Net, size, is_dff, remap_gate, shaped, fanin}
@@ -38,8 +38,8 @@ use Rattle.placing.proofs.Lookups.{norm_law}
 -- the code's test of the two kinds of sweep
 pub beq_turn : (a b : Bool) → not (beq a b) ≡ false → a ≡ b
 beq_turn true true e = refl
-beq_turn true false e = true-false e
-beq_turn false true e = true-false e
+beq_turn true false e = true_false e
+beq_turn false true e = true_false e
 beq_turn false false e = refl
 
 pub beq_skip : (a b : Bool) → not (beq a b) ≡ true → a ≡ not b

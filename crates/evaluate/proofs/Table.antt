@@ -15,7 +15,7 @@ use Rattle.laws.specs.Bools.{xor, bit}
 use Rattle.laws.specs.Lists.{All, tab}
 use Rattle.laws.proofs.Bools.{and_right}
 use Rattle.laws.proofs.Choices.{by_bool}
-use Rattle.laws.proofs.Lists.{all-at}
+use Rattle.laws.proofs.Lists.{all_at}
 use Rattle.laws.proofs.Tabs.{tab_ext, map_tab}
 use Rattle.model.specs.Signal.{is_inverted, rnode, rinput, ref}
 use Rattle.model.specs.Gate.{Gate, Net, is_dff, size, named}
@@ -141,7 +141,7 @@ module _ (f ins st : List ℕ) (c : Counts) where
     inputs_are t m k low hold named =
         tab_ext _ _ (count_at f m)
         (λ j l. value_is t i k inp v hold few low (input_at f (first_at f m + j))
-        (rw (get_or_ins_at f m j l) at (all-at (Here i k) (ins_at f m) 0 named j (rw length_ins_at l))))
+        (rw (get_or_ins_at f m j l) at (all_at (Here i k) (ins_at f m) 0 named j (rw length_ins_at l))))
         ∙ sym (map_tab (signal_value inp v) (λ j. input_at f (first_at f m + j)) (count_at f m))
 
     ins_of : (m k : ℕ) → m < n → All (Here i k) (model.gate_at N m).ins → All (Here i k) (ins_at f m)
@@ -179,7 +179,7 @@ module _ (f ins st : List ℕ) (c : Counts) where
       output_is j l =
           let a : All (Here i (size N)) (outputs_of f c.outs) = wired_outs N w in
           let b : All (Here i n) (outputs_of f c.outs) = rw (size_network f c) at a in
-          value_is t i n inp v hold few small (output_at f j) (rw (get_or_outputs_of f c.outs j l) at (all-at (Here i n) (outputs_of f c.outs) 0 b j (rw length_outputs_of l)))
+          value_is t i n inp v hold few small (output_at f j) (rw (get_or_outputs_of f c.outs j l) at (all_at (Here i n) (outputs_of f c.outs) 0 b j (rw length_outputs_of l)))
 
       pub outputs_are : tab (output_byte f t) c.outs ≡ output_bytes N ins st
       unfolding output_byte output_bytes outputs cycle_values network_of net_of outputs_of

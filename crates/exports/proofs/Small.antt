@@ -8,7 +8,7 @@ use lib.ListN.{length}
 use lib.Dec.{eqb, leb, ltb}
 use borrow.Author.Tests.{eqb-true, ltb-false}
 use Rattle.answers.specs.Numbers.{length_of}
-use Rattle.laws.proofs.Choices.{by_bool, by-test}
+use Rattle.laws.proofs.Choices.{by_bool, by_test}
 use Rattle.model.specs.Gate.{Net, Valid, is_topo_sorted}
 use Rattle.model.specs.Image.{refusal_of, sorted_refusal_of, net_of, image_of}
 use Rattle.model.specs.Answers.{Outcome, refused, written, evaluated, answer_of, areas_short, in_areas, in_room, unless}
@@ -44,16 +44,16 @@ small_evaluated os st = record { few = omega arith }
 -- each step of the ladder
 pub small_room : (x y : ℕ) (o : Outcome) → Small o → Small (in_room x y o)
 small_room x y (refused n) h = h
-small_room x y (written w m) h = by-test Small (leb (length w) x && leb (length m) y) (λ e. h) (λ e. small_refused 13)
+small_room x y (written w m) h = by_test Small (leb (length w) x && leb (length m) y) (λ e. h) (λ e. small_refused 13)
 small_room x y (evaluated os st) h = h
 
 pub small_unless : (k : ℕ) (o : Outcome) → (k ≡ 0 → Small o) → Small (unless k o)
 unfolding unless
-small_unless k o h = by-test Small (eqb k 0) (λ e. h (eqb-true k 0 e)) (λ e. small_refused k)
+small_unless k o h = by_test Small (eqb k 0) (λ e. h (eqb-true k 0 e)) (λ e. small_refused k)
 
 pub small_areas : (a b : List ℕ) (o : Outcome) → Small o → Small (in_areas a b o)
 unfolding in_areas
-small_areas a b o h = by-test Small (areas_short a b) (λ e. small_refused 1) (λ e. h)
+small_areas a b o h = by_test Small (areas_short a b) (λ e. small_refused 1) (λ e. h)
 
 -- ---- each entry
 
@@ -103,7 +103,7 @@ module _ (img out mapping a b : List ℕ) where
       small_areas a b _
       (small_room (length out) (length mapping) _
       (small_unless (refusal_of img) _
-      (λ e. by-test Small (sorts (net_of img)) (λ t. small_written _ (sort_valid (net_of img) (valid_net img e) t) _) (λ t. small_refused 8))))
+      (λ e. by_test Small (sorts (net_of img)) (λ t. small_written _ (sort_valid (net_of img) (valid_net img e) t) _) (λ t. small_refused 8))))
 
 -- the entries of share_logic.rs
 module _ (img out a b : List ℕ) where

@@ -28,7 +28,7 @@ use Rattle.uses.specs.Loading.{SameLists, Source, lists_in}
 use Rattle.uses.specs.Uses.{Named}
 use Rattle.growth.proofs.Growings.{is_two, lists_put_node}
 use Rattle.laws.proofs.Bools.{and_right}
-use Rattle.laws.proofs.Lists.{all-at}
+use Rattle.laws.proofs.Lists.{all_at}
 use Rattle.laws.proofs.Tabs.{length_tab, tab_ext}
 use Rattle.model.proofs.Words.{input_ref, var_ref}
 use Rattle.pairs.proofs.Gates.{get_or_lists, length_list, length_lists}
@@ -221,7 +221,7 @@ module _ (f : Family) (from l : List ℕ) (c : Counts) (k : ℕ) (E : Ended f fr
   one_at : (i : ℕ) → i < length (lists_in f from c.nodes) → left_at l i ≡ 1
   one_at i h =
       let a = rw lists_is at (ended_one f (network_of from c)) in
-      let b = all-at (λ x. length x ≡ 1) (lists_of l (length (lists_in f from c.nodes))) [] a i (rw (length_lists l (length (lists_in f from c.nodes))) h) in
+      let b = all_at (λ x. length x ≡ 1) (lists_of l (length (lists_in f from c.nodes))) [] a i (rw (length_lists l (length (lists_in f from c.nodes))) h) in
       sym (length_list l i) ∙ ap length (sym (get_or_lists l (length (lists_in f from c.nodes)) i h)) ∙ b
 
   pub grow_begun : Begun f from l c.nodes

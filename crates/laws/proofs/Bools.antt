@@ -38,8 +38,8 @@ pub xor3_is : (a b c d : Bool) → not (beq (not (beq (not (beq a b)) c)) d) ≡
 xor3_is a b c d = rw (xor_is a b, xor_is (xor a b) c, xor_is (xor (xor a b) c) d)
 
 -- nothing is both
-pub true-false {ℓ} : {X : Type ℓ} → true ≡ false → X
-true-false q = let z : ◌≡◌ {A = ℕ} 0 1 = cc in absurd (omega arith)
+pub true_false {ℓ} : {X : Type ℓ} → true ≡ false → X
+true_false q = let z : ◌≡◌ {A = ℕ} 0 1 = cc in absurd (omega arith)
 
 -- the two halves of a disjunction that fails
 pub or_left : (a b : Bool) → (a || b) ≡ false → a ≡ false
@@ -47,7 +47,7 @@ or_left true b e = e
 or_left false b e = refl
 
 pub or_right : (a b : Bool) → (a || b) ≡ false → b ≡ false
-or_right true b e = true-false e
+or_right true b e = true_false e
 or_right false b e = e
 
 -- and of a conjunction that holds
@@ -57,7 +57,7 @@ and_left false b e = e
 
 pub and_right : (a b : Bool) → (a && b) ≡ true → b ≡ true
 and_right true b e = e
-and_right false b e = true-false (sym e)
+and_right false b e = true_false (sym e)
 
 pub and_both : (a b : Bool) → a ≡ true → b ≡ true → (a && b) ≡ true
 and_both true b e f = f

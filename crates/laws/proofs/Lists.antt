@@ -21,26 +21,26 @@ pub all_both {ℓ ℓ'} : {A : Type 0} (P : A → Type ℓ) (Q : A → Type ℓ'
 all_both P Q [] p q = tt
 all_both P Q (x ∷ xs) p q = ((p.0, q.0), all_both P Q xs p.1 q.1)
 
-pub all-at {ℓ} : {A : Type 0} (P : A → Type ℓ) (l : List A) (d : A) → All P l → (j : ℕ) → j < length l → P (get_or l j d)
-all-at P [] d h j l = absurd (not-suc-le-zero l)
-all-at P (x ∷ xs) d h zero l = h.0
-all-at P (x ∷ xs) d h (suc j) l = all-at P xs d h.1 j (le_of_suc-le-suc l)
+pub all_at {ℓ} : {A : Type 0} (P : A → Type ℓ) (l : List A) (d : A) → All P l → (j : ℕ) → j < length l → P (get_or l j d)
+all_at P [] d h j l = absurd (not-suc-le-zero l)
+all_at P (x ∷ xs) d h zero l = h.0
+all_at P (x ∷ xs) d h (suc j) l = all_at P xs d h.1 j (le_of_suc-le-suc l)
 
 pub all_of {ℓ} : {A : Type 0} (P : A → Type ℓ) (l : List A) (d : A) → ((j : ℕ) → j < length l → P (get_or l j d)) → All P l
 all_of P [] d h = tt
 all_of P (x ∷ xs) d h = (h zero (suc-le-suc zero-le), all_of P xs d (λ j l. h (suc j) (suc-le-suc l)))
 
-pub all-each {ℓ} : {A : Type 0} (P : A → Type ℓ) (l : List A) → ((a : A) → P a) → All P l
-all-each P [] h = tt
-all-each P (x ∷ l) h = (h x, all-each P l h)
+pub all_each {ℓ} : {A : Type 0} (P : A → Type ℓ) (l : List A) → ((a : A) → P a) → All P l
+all_each P [] h = tt
+all_each P (x ∷ l) h = (h x, all_each P l h)
 
 pub all_append {ℓ} : {A : Type 0} (P : A → Type ℓ) (a b : List A) → All P a → All P b → All P (a ++ b)
 all_append P [] b x y = y
 all_append P (s ∷ a) b x y = (x.0, all_append P a b x.1 y)
 
-pub map-all {ℓ ℓ'} : {A B : Type 0} {P : A → Type ℓ} (Q : B → Type ℓ') (f : A → B) (l : List A) → ((a : A) → P a → Q (f a)) → All P l → All Q (map f l)
-map-all Q f [] h p = tt
-map-all Q f (x ∷ l) h p = (h x p.0, map-all Q f l h p.1)
+pub map_all {ℓ ℓ'} : {A B : Type 0} {P : A → Type ℓ} (Q : B → Type ℓ') (f : A → B) (l : List A) → ((a : A) → P a → Q (f a)) → All P l → All Q (map f l)
+map_all Q f [] h p = tt
+map_all Q f (x ∷ l) h p = (h x p.0, map_all Q f l h p.1)
 
 pub set_all {ℓ} : {A : Type 0} (P : A → Type ℓ) (l : List A) (i : ℕ) (a : A) → All P l → P a → All P (set l i a)
 set_all P [] i a h k = tt
@@ -56,8 +56,8 @@ distinct_append (x ∷ a) b d e f = (all_append (λ y. y ≢ x) a b d.0 f.0, dis
 pub distinct_index : (l : List ℕ) → Distinct l → (i j : ℕ) → i < length l → j < length l → get_or l i 0 ≡ get_or l j 0 → i ≡ j
 distinct_index [] d i j h k e = absurd (not-suc-le-zero h)
 distinct_index (x ∷ l) d zero zero h k e = refl
-distinct_index (x ∷ l) d zero (suc j) h k e = absurd (all-at (λ y. y ≢ x) l 0 d.0 j (le_of_suc-le-suc k) (sym e))
-distinct_index (x ∷ l) d (suc i) zero h k e = absurd (all-at (λ y. y ≢ x) l 0 d.0 i (le_of_suc-le-suc h) e)
+distinct_index (x ∷ l) d zero (suc j) h k e = absurd (all_at (λ y. y ≢ x) l 0 d.0 j (le_of_suc-le-suc k) (sym e))
+distinct_index (x ∷ l) d (suc i) zero h k e = absurd (all_at (λ y. y ≢ x) l 0 d.0 i (le_of_suc-le-suc h) e)
 distinct_index (x ∷ l) d (suc i) (suc j) h k e = ap suc (distinct_index l d.1 i j (le_of_suc-le-suc h) (le_of_suc-le-suc k) e)
 
 -- ---- a mapped list

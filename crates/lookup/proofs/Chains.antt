@@ -16,7 +16,7 @@ use mir.Val.{Fits}
 use mir.Syntax.{w64}
 use Rattle.laws.specs.Lists.{tab}
 use Rattle.laws.proofs.Tabs.{length_tab, get_or_tab}
-use Rattle.laws.proofs.Choices.{by_bool, by-eq}
+use Rattle.laws.proofs.Choices.{by_bool, by_eq}
 use Rattle.model.specs.Gate.{Gate}
 use Rattle.model.specs.Network.{same_gate, find_gate}
 use Rattle.shape.proofs.DedupPlace.{same_gate_eq}
@@ -112,7 +112,7 @@ module _ (B : ℕ → ℕ) (h : ℕ) where
   pub last_in_inside : (n : ℕ) → last_in B h n ≤ n
   unfolding last_in
   last_in_inside zero = omega arith
-  last_in_inside (suc n) = by-eq (λ (x : ℕ). x ≤ suc n) (B n) h (λ e. le_refl (suc n)) (λ e. let i = last_in_inside n in omega arith)
+  last_in_inside (suc n) = by_eq (λ (x : ℕ). x ≤ suc n) (B n) h (λ e. le_refl (suc n)) (λ e. let i = last_in_inside n in omega arith)
 
   pub last_in_belongs : (n w : ℕ) → last_in B h n ≡ suc w → B w ≡ h
   unfolding last_in

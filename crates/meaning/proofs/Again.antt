@@ -12,7 +12,7 @@ use Rattle.kinds.specs.Kinds.{kind_of, code_of}
 use Rattle.kinds.specs.declared.Kind.{Kind}
 use Rattle.kinds.specs.declared.Kind.TheVariants.{And2, Xor2, And3, Xor3, Maj, Mux, AndN, OrN, NandN, NorN, XorN, XnorN, Buf, Dff, Lut}
 use Rattle.laws.specs.Lists.{All}
-use Rattle.laws.proofs.Bools.{true-false, and_left, and_right}
+use Rattle.laws.proofs.Bools.{true_false, and_left, and_right}
 use Rattle.laws.proofs.Lists.{all_map, by_two, by_three}
 use Rattle.model.specs.Signal.{is_inverted, ind, neg, without_inversion, is_constant}
 use Rattle.model.specs.Gate.{Gate, fits_kind, fits_table, shaped}
@@ -148,14 +148,14 @@ mux_tests s a b h =
     each : (p q r t u v w x : Bool) → (p && q && r && t && u && v && w && x) ≡ true
         → (p ≡ true) × (q ≡ true) × (r ≡ true) × (t ≡ true) × (u ≡ true) × (v ≡ true) × (w ≡ true) × (x ≡ true)
     each true true true true true true true true e = (refl, refl, refl, refl, refl, refl, refl, refl)
-    each false q r t u v w x e = true-false (sym e)
-    each true false r t u v w x e = true-false (sym e)
-    each true true false t u v w x e = true-false (sym e)
-    each true true true false u v w x e = true-false (sym e)
-    each true true true true false v w x e = true-false (sym e)
-    each true true true true true false w x e = true-false (sym e)
-    each true true true true true true false x e = true-false (sym e)
-    each true true true true true true true false e = true-false (sym e)
+    each false q r t u v w x e = true_false (sym e)
+    each true false r t u v w x e = true_false (sym e)
+    each true true false t u v w x e = true_false (sym e)
+    each true true true false u v w x e = true_false (sym e)
+    each true true true true false v w x e = true_false (sym e)
+    each true true true true true false w x e = true_false (sym e)
+    each true true true true true true false x e = true_false (sym e)
+    each true true true true true true true false e = true_false (sym e)
 
 mux_stays : (s a b : ℕ) → MuxTests s a b → make_mux s a b false ≡ made (gate_of Mux (s ∷ a ∷ b ∷ [])) false
 unfolding make_mux mux_select mux_plain made3
@@ -168,10 +168,10 @@ dff_stays d en res h = rw (none (eqb d 0) (eqb en 0) (eqb res 1) h)
   where
     none : (p q r : Bool) → (not q && not p && not r) ≡ true → (p || q || r) ≡ false
     none false false false e = refl
-    none true true r e = true-false (sym e)
-    none true false r e = true-false (sym e)
-    none false true r e = true-false (sym e)
-    none false false true e = true-false (sym e)
+    none true true r e = true_false (sym e)
+    none true false r e = true_false (sym e)
+    none false true r e = true_false (sym e)
+    none false false true e = true_false (sym e)
 
 -- ---- any number
 
@@ -192,13 +192,13 @@ some x l a h = (a, all_map l (λ y k. omega arith) h.0)
 many_and : (x : ℕ) (l : List ℕ) → ltb 3 (length (x ∷ l)) ≡ true → 2 ≤ x → and_wide (x ∷ l) false ≡ made (gate_of AndN (x ∷ l)) false
 unfolding and_wide and_some
 many_and x (y ∷ w ∷ u ∷ l) e a = rw (ne_eqb x 0 (omega arith))
-many_and x [] e a = true-false (sym e)
-many_and x (y ∷ []) e a = true-false (sym e)
-many_and x (y ∷ w ∷ []) e a = true-false (sym e)
+many_and x [] e a = true_false (sym e)
+many_and x (y ∷ []) e a = true_false (sym e)
+many_and x (y ∷ w ∷ []) e a = true_false (sym e)
 
 and_n_stays : (l : List ℕ) → proper l ≡ true → ltb 3 (length l) ≡ true → make_and_n l false ≡ made (gate_of AndN l) false
 unfolding make_and_n and_tidy
-and_n_stays [] h e = true-false (sym e)
+and_n_stays [] h e = true_false (sym e)
 and_n_stays (x ∷ l) h e =
     let m = x ∷ l in
     let r = proper_rise m h in
@@ -218,14 +218,14 @@ plain_parity (x ∷ l) h = rw (h.0, plain_parity l h.1)
 many_xor : (l : List ℕ) → ltb 3 (length l) ≡ true → xor_some l false ≡ made (gate_of XorN l) false
 unfolding xor_some
 many_xor (x ∷ y ∷ w ∷ u ∷ l) e = refl
-many_xor [] e = true-false (sym e)
-many_xor (x ∷ []) e = true-false (sym e)
-many_xor (x ∷ y ∷ []) e = true-false (sym e)
-many_xor (x ∷ y ∷ w ∷ []) e = true-false (sym e)
+many_xor [] e = true_false (sym e)
+many_xor (x ∷ []) e = true_false (sym e)
+many_xor (x ∷ y ∷ []) e = true_false (sym e)
+many_xor (x ∷ y ∷ w ∷ []) e = true_false (sym e)
 
 xor_n_stays : (l : List ℕ) → proper l ≡ true → ltb 3 (length l) ≡ true → no_inv l ≡ true → make_xor_n l false ≡ made (gate_of XorN l) false
 unfolding make_xor_n
-xor_n_stays [] h e p = true-false (sym e)
+xor_n_stays [] h e p = true_false (sym e)
 xor_n_stays (x ∷ l) h e p =
     let m = x ∷ l in
     let q = plain_all m p in
@@ -255,13 +255,13 @@ kind_stays Maj l t f h = by_three (λ l. Stays (gate_with Maj l t)) l f (λ x y 
     maj_stays x y w (rise3 x y w (and_left _ (not (is_inverted x)) c)) (not-true (is_inverted x) (and_right (proper (x ∷ y ∷ w ∷ [])) _ c)) ∙ bare Maj _ t (eqb-true t 0 h))
 kind_stays Mux l t f h = by_three (λ l. Stays (gate_with Mux l t)) l f (λ s a b c. mux_stays s a b (mux_tests s a b c) ∙ bare Mux _ t (eqb-true t 0 h))
 kind_stays AndN l t f h = λ c. and_n_stays l (and_left _ (ltb 3 (length l)) c) (and_right (proper l) _ c) ∙ bare AndN l t (eqb-true t 0 h)
-kind_stays OrN l t f h = λ c. true-false (sym c)
-kind_stays NandN l t f h = λ c. true-false (sym c)
-kind_stays NorN l t f h = λ c. true-false (sym c)
+kind_stays OrN l t f h = λ c. true_false (sym c)
+kind_stays NandN l t f h = λ c. true_false (sym c)
+kind_stays NorN l t f h = λ c. true_false (sym c)
 kind_stays XorN l t f h = λ c. let d = and_left _ (no_inv l) c in
     xor_n_stays l (and_left _ (ltb 3 (length l)) d) (and_right (proper l) _ d) (and_right (proper l && ltb 3 (length l)) _ c) ∙ bare XorN l t (eqb-true t 0 h)
-kind_stays XnorN l t f h = λ c. true-false (sym c)
-kind_stays Buf l t f h = λ c. true-false (sym c)
+kind_stays XnorN l t f h = λ c. true_false (sym c)
+kind_stays Buf l t f h = λ c. true_false (sym c)
 kind_stays Dff l t f h = by_three (λ l. Stays (gate_with Dff l t)) l f (λ d en res c. dff_stays d en res c ∙ bare Dff _ t (eqb-true t 0 h))
 kind_stays Lut l t f h = λ c. refl
 

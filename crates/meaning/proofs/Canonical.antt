@@ -14,14 +14,14 @@ use Rattle.kinds.specs.declared.Kind.TheVariants.{And2, Xor2, And3, Xor3, Maj, M
 use Rattle.laws.specs.Lists.{All}
 use Rattle.laws.proofs.Bools.{or_left, or_right}
 use Rattle.laws.proofs.Lists.{by_one, by_two, by_three}
-use Rattle.laws.proofs.Choices.{by-eq, by-or2, by-or3, by-test}
+use Rattle.laws.proofs.Choices.{by_eq, by_or2, by_or3, by_test}
 use Rattle.model.specs.Signal.{is_inverted, neg, without_inversion, is_constant}
 use Rattle.model.specs.Gate.{Gate, fits_kind, fits_code, fits_table, shaped}
 use Rattle.model.specs.Normal.{Norm, copied, made, made2, made3, least, most, low3, mid3, high3, and_sorted, make_and, xor_sorted, make_xor, and3_sorted, make_and3, xor3_sorted, make_xor3, mux_plain, mux_select, make_mux, maj_plain, maj_sorted, make_maj, make_dff, without, sorted, uniq, opposed, and_some, and_wide, and_tidy, make_and_n, cancel, xor_some, make_xor_n, normal_k, make_canonical, rises, sorted_n, no_inv, proper, mux_canonical, dff_canonical, canonical_k, is_canonical, is_normal}
 use Rattle.model.proofs.Words.{flip_ind, plain_inv, inv_even, same_ind, neg_neg, neg_plain}
-use Rattle.model.proofs.Order.{least_most, low_mid, mid_high, rising, sort2-ok, sort3-ok}
+use Rattle.model.proofs.Order.{least_most, low_mid, mid_high, rising, sort2_ok, sort3_ok}
 use Rattle.meaning.proofs.Shapes.{fits_kind_lem}
-use Rattle.model.proofs.Lists.{Up, sorted_asc, uniq_up, cancel_up, sorted_all, without_all, uniq-all, cancel-all, without_other}
+use Rattle.model.proofs.Lists.{Up, sorted_asc, uniq_up, cancel_up, sorted_all, without_all, uniq_all, cancel_all, without_other}
 
 -- a gate that is made has its kind's shape
 abbrev pub fits_norm : Norm → Bool
@@ -74,8 +74,8 @@ two_up x p q = omega arith
 and_sorted_lem : (z : Bool) (x y : ℕ) → x ≤ y → Canon (and_sorted x y z)
 unfolding and_sorted made2 is_canonical canonical_k kind_of shaped fits_code fits_table
 and_sorted_lem z x y l =
-    by-or2 Canon x 0 x (neg y) (λ e. copy_canon _) (λ e. copy_canon _) (λ p q.
-    by-or2 Canon x 1 x y (λ e. copy_canon _) (λ e. copy_canon _) (λ r s.
+    by_or2 Canon x 0 x (neg y) (λ e. copy_canon _) (λ e. copy_canon _) (λ p q.
+    by_or2 Canon x 1 x y (λ e. copy_canon _) (λ e. copy_canon _) (λ r s.
     record { is = proper2 x y (omega arith) (rising x y l q s); fits = refl }))
 
 pub and_canon : (a b : ℕ) (z : Bool) → Canon (make_and a b z)
@@ -88,14 +88,14 @@ Plain2 x y = (is_inverted x ≡ false) × (is_inverted y ≡ false)
 xor_sorted_lem : (z : Bool) (x y : ℕ) → x ≤ y → is_inverted x ≡ false → is_inverted y ≡ false → Canon (xor_sorted x y z)
 unfolding xor_sorted made2 is_canonical canonical_k kind_of shaped fits_code fits_table
 xor_sorted_lem z x y l a b =
-    by-eq Canon x 0 (λ e. copy_canon _) (λ p.
-    by-eq Canon x y (λ e. copy_canon _) (λ q.
+    by_eq Canon x 0 (λ e. copy_canon _) (λ p.
+    by_eq Canon x y (λ e. copy_canon _) (λ q.
     record { is = rw (proper2 x y (even_two x a p) (even_rising x y l q a b), plain2 x y a b); fits = refl }))
 
 pub xor_canon : (a b : ℕ) (z : Bool) → Canon (make_xor a b z)
 unfolding make_xor
 xor_canon a b z =
-    let k : Plain2 (least (without_inversion a) (without_inversion b)) (most (without_inversion a) (without_inversion b)) = sort2-ok Plain2 (without_inversion a) (without_inversion b) (plain_inv a, plain_inv b) (plain_inv b, plain_inv a) in
+    let k : Plain2 (least (without_inversion a) (without_inversion b)) (most (without_inversion a) (without_inversion b)) = sort2_ok Plain2 (without_inversion a) (without_inversion b) (plain_inv a, plain_inv b) (plain_inv b, plain_inv a) in
     xor_sorted_lem _ (least (without_inversion a) (without_inversion b)) (most (without_inversion a) (without_inversion b)) (least_most (without_inversion a) (without_inversion b)) k.0 k.1
 
 -- ---- three inputs
@@ -103,9 +103,9 @@ xor_canon a b z =
 and3_sorted_lem : (z : Bool) (x y w : ℕ) → x ≤ y → y ≤ w → Canon (and3_sorted x y w z)
 unfolding and3_sorted made3 is_canonical canonical_k kind_of shaped fits_code fits_table
 and3_sorted_lem z x y w l m =
-    by-or3 Canon x 0 x (neg y) w (neg y) (λ e. copy_canon _) (λ e. copy_canon _) (λ e. copy_canon _) (λ p q r.
-    by-or2 Canon x 1 x y (λ e. and_canon y w z) (λ e. and_canon y w z) (λ s t.
-    by-eq Canon y w (λ e. and_canon x y z) (λ u.
+    by_or3 Canon x 0 x (neg y) w (neg y) (λ e. copy_canon _) (λ e. copy_canon _) (λ e. copy_canon _) (λ p q r.
+    by_or2 Canon x 1 x y (λ e. and_canon y w z) (λ e. and_canon y w z) (λ s t.
+    by_eq Canon y w (λ e. and_canon x y z) (λ u.
     record { is = proper3 x y w (omega arith) (rising x y l q t) (rising y w m (λ e. r (swap y w e)) u); fits = refl })))
   where
     swap : (y w : ℕ) → y ≡ neg w → w ≡ neg y
@@ -121,9 +121,9 @@ Plain3 x y w = (is_inverted x ≡ false) × (is_inverted y ≡ false) × (is_inv
 xor3_sorted_lem : (z : Bool) (x y w : ℕ) → x ≤ y → y ≤ w → Plain3 x y w → Canon (xor3_sorted x y w z)
 unfolding xor3_sorted made3 is_canonical canonical_k kind_of shaped fits_code fits_table
 xor3_sorted_lem z x y w l m k =
-    by-eq Canon x 0 (λ e. xor_canon y w z) (λ p.
-    by-eq Canon x y (λ e. copy_canon _) (λ q.
-    by-eq Canon y w (λ e. copy_canon _) (λ r.
+    by_eq Canon x 0 (λ e. xor_canon y w z) (λ p.
+    by_eq Canon x y (λ e. copy_canon _) (λ q.
+    by_eq Canon y w (λ e. copy_canon _) (λ r.
     record { is = rw (proper3 x y w (even_two x k.0 p) (even_rising x y l q k.0 k.1) (even_rising y w m r k.1 k.2), plain3 x y w k.0 k.1 k.2); fits = refl })))
 
 pub xor3_canon : (a b c : ℕ) (z : Bool) → Canon (make_xor3 a b c z)
@@ -131,7 +131,7 @@ unfolding make_xor3
 xor3_canon a b c z =
     xor3_sorted_lem _ (low3 (without_inversion a) (without_inversion b) (without_inversion c)) (mid3 (without_inversion a) (without_inversion b) (without_inversion c)) (high3 (without_inversion a) (without_inversion b) (without_inversion c))
     (low_mid (without_inversion a) (without_inversion b) (without_inversion c)) (mid_high (without_inversion a) (without_inversion b) (without_inversion c))
-    (sort3-ok Plain3 (λ x y w k. (k.1, k.0, k.2)) (λ x y w k. (k.0, k.2, k.1)) (without_inversion a) (without_inversion b) (without_inversion c) (plain_inv a, plain_inv b, plain_inv c))
+    (sort3_ok Plain3 (λ x y w k. (k.1, k.0, k.2)) (λ x y w k. (k.0, k.2, k.1)) (without_inversion a) (without_inversion b) (without_inversion c) (plain_inv a, plain_inv b, plain_inv c))
 
 -- indices apart
 apart : (x y : ℕ) → x ≢ y → x ≢ neg y → eqb (x / 2) (y / 2) ≡ false
@@ -140,33 +140,33 @@ apart x y d e = ne_eqb (x / 2) (y / 2) (λ h. e (same_ind x y h d))
 mux_plain_lem : (s a b : ℕ) (z : Bool) → is_inverted s ≡ false → is_inverted b ≡ false → Canon (mux_plain s a b z)
 unfolding mux_plain made3 is_canonical canonical_k mux_canonical kind_of shaped fits_code fits_table
 mux_plain_lem s a b z is ib =
-    by-or2 Canon s 0 a b (λ e. copy_canon _) (λ e. copy_canon _) (λ p1 p2.
-    by-or2 Canon s a a 1 (λ e. and_canon _ _ _) (λ e. and_canon _ _ _) (λ p3 p4.
-    by-or2 Canon s (neg a) a 0 (λ e. and_canon _ _ _) (λ e. and_canon _ _ _) (λ p5 p6.
-    by-or2 Canon s b b 0 (λ e. and_canon _ _ _) (λ e. and_canon _ _ _) (λ p7 p8.
-    by-or2 Canon s (neg b) b 1 (λ e. and_canon _ _ _) (λ e. and_canon _ _ _) (λ p9 p10.
-    by-eq Canon a (neg b) (λ e. xor_canon _ _ _) (λ p11.
+    by_or2 Canon s 0 a b (λ e. copy_canon _) (λ e. copy_canon _) (λ p1 p2.
+    by_or2 Canon s a a 1 (λ e. and_canon _ _ _) (λ e. and_canon _ _ _) (λ p3 p4.
+    by_or2 Canon s (neg a) a 0 (λ e. and_canon _ _ _) (λ e. and_canon _ _ _) (λ p5 p6.
+    by_or2 Canon s b b 0 (λ e. and_canon _ _ _) (λ e. and_canon _ _ _) (λ p7 p8.
+    by_or2 Canon s (neg b) b 1 (λ e. and_canon _ _ _) (λ e. and_canon _ _ _) (λ p9 p10.
+    by_eq Canon a (neg b) (λ e. xor_canon _ _ _) (λ p11.
     record { is = rw (apart s a p3 p5, apart s b p7 p9, apart a b p2 p11, is, ib, no_constant a (two_up a p6 p4), no_constant b (two_up b p8 p10), no_constant s (even_two s is p1)); fits = refl }))))))
 
 mux_select_lem : (s a b : ℕ) (z : Bool) → is_inverted s ≡ false → Canon (mux_select s a b z)
 unfolding mux_select
-mux_select_lem s a b z e = by-test Canon (is_inverted b) (λ f. mux_plain_lem s (neg a) (neg b) (not z) e (neg_plain b f)) (λ f. mux_plain_lem s a b z e f)
+mux_select_lem s a b z e = by_test Canon (is_inverted b) (λ f. mux_plain_lem s (neg a) (neg b) (not z) e (neg_plain b f)) (λ f. mux_plain_lem s a b z e f)
 
 pub mux_canon : (s a b : ℕ) (z : Bool) → Canon (make_mux s a b z)
 unfolding make_mux
-mux_canon s a b z = by-test Canon (is_inverted s) (λ e. mux_select_lem (neg s) b a z (neg_plain s e)) (λ e. mux_select_lem s a b z e)
+mux_canon s a b z = by_test Canon (is_inverted s) (λ e. mux_select_lem (neg s) b a z (neg_plain s e)) (λ e. mux_select_lem s a b z e)
 
 maj_plain_lem : (x y w : ℕ) (z : Bool) → is_inverted x ≡ false → x / 2 < y / 2 → y / 2 < w / 2 → Canon (maj_plain x y w z)
 unfolding maj_plain made3 is_canonical canonical_k kind_of shaped fits_code fits_table
 maj_plain_lem x y w z e l m =
-    by-eq Canon x 0 (λ q. and_canon y w z) (λ q. record { is = rw (proper3 x y w (even_two x e q) l m, e); fits = refl })
+    by_eq Canon x 0 (λ q. and_canon y w z) (λ q. record { is = rw (proper3 x y w (even_two x e q) l m, e); fits = refl })
 
 maj_sorted_lem : (z : Bool) (x y w : ℕ) → x ≤ y → y ≤ w → Canon (maj_sorted x y w z)
 unfolding maj_sorted
 maj_sorted_lem z x y w l m =
-    by-or2 Canon x (neg y) y w (λ e. copy_canon _) (λ e. copy_canon _) (λ p q.
-    by-or2 Canon y (neg w) x y (λ e. copy_canon _) (λ e. copy_canon _) (λ r s.
-    by-test Canon (is_inverted x)
+    by_or2 Canon x (neg y) y w (λ e. copy_canon _) (λ e. copy_canon _) (λ p q.
+    by_or2 Canon y (neg w) x y (λ e. copy_canon _) (λ e. copy_canon _) (λ r s.
+    by_test Canon (is_inverted x)
     (λ e. maj_plain_lem (neg x) (neg y) (neg w) (not z) (neg_plain x e) (turned x y (rising x y l p s)) (turned y w (rising y w m r q)))
     (λ e. maj_plain_lem x y w z e (rising x y l p s) (rising y w m r q))))
   where
@@ -180,7 +180,7 @@ maj_canon a b c z = maj_sorted_lem z (low3 a b c) (mid3 a b c) (high3 a b c) (lo
 pub dff_canon : (d en res : ℕ) (z : Bool) → Canon (make_dff d en res z)
 unfolding make_dff made3 is_canonical canonical_k dff_canonical kind_of shaped fits_code fits_table
 dff_canon d en res z =
-    by-or3 Canon d 0 en 0 res 1 (λ e. copy_canon _) (λ e. copy_canon _) (λ e. copy_canon _)
+    by_or3 Canon d 0 en 0 res 1 (λ e. copy_canon _) (λ e. copy_canon _) (λ e. copy_canon _)
     (λ p q r. record { is = rw (ne_eqb en 0 q, ne_eqb d 0 p, ne_eqb res 1 r); fits = refl })
 
 -- ---- any number: a sorted list without repeats rises
@@ -220,14 +220,14 @@ and_some_lem x (y ∷ w ∷ u ∷ l) z a h = record { is = rw (h, no_constant x 
 and_wide_lem : (l : List ℕ) (z : Bool) → All (λ s. s ≢ 1) l → sorted_n l ≡ true → Canon (and_wide l z)
 unfolding and_wide
 and_wide_lem [] z a h = copy_canon _
-and_wide_lem (x ∷ l) z a h = by-eq Canon x 0 (λ e. copy_canon _) (λ e. let d : x ≢ 1 = a.0 in and_some_lem x l z (omega arith) h)
+and_wide_lem (x ∷ l) z a h = by_eq Canon x 0 (λ e. copy_canon _) (λ e. let d : x ≢ 1 = a.0 in and_some_lem x l z (omega arith) h)
 
 pub and_n_canon : (l : List ℕ) (z : Bool) → Canon (make_and_n l z)
 unfolding make_and_n and_tidy
 and_n_canon l z =
     let m = sorted (without 1 l) in
-    by-test Canon (opposed (uniq m)) (λ e. copy_canon _)
-    (λ e. and_wide_lem (uniq m) z (uniq-all (λ s. s ≢ 1) m (sorted_all (λ s. s ≢ 1) (without 1 l) (without_other 1 l))) (up_rises (uniq m) (uniq_up m (sorted_asc (without 1 l))) e))
+    by_test Canon (opposed (uniq m)) (λ e. copy_canon _)
+    (λ e. and_wide_lem (uniq m) z (uniq_all (λ s. s ≢ 1) m (sorted_all (λ s. s ≢ 1) (without 1 l) (without_other 1 l))) (up_rises (uniq m) (uniq_up m (sorted_asc (without 1 l))) e))
 
 plain_all : (l : List ℕ) → All (λ s. is_inverted s ≡ false) (map without_inversion l)
 plain_all [] = tt
@@ -248,8 +248,8 @@ xor_n_canon l z =
     let k = without 0 (map without_inversion l) in
     let m = sorted k in
     xor_some_lem (cancel m) _
-    (cancel-all (λ s. s ≢ 0) m (sorted_all (λ s. s ≢ 0) k (without_other 0 (map without_inversion l))))
-    (cancel-all (λ s. is_inverted s ≡ false) m (sorted_all (λ s. is_inverted s ≡ false) k (without_all (λ s. is_inverted s ≡ false) 0 (map without_inversion l) (plain_all l))))
+    (cancel_all (λ s. s ≢ 0) m (sorted_all (λ s. s ≢ 0) k (without_other 0 (map without_inversion l))))
+    (cancel_all (λ s. is_inverted s ≡ false) m (sorted_all (λ s. is_inverted s ≡ false) k (without_all (λ s. is_inverted s ≡ false) 0 (map without_inversion l) (plain_all l))))
     (cancel_up m (sorted_asc k))
 
 -- ---- the whole

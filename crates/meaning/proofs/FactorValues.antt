@@ -13,12 +13,12 @@ use borrow.Author.Tests.{eq-eqb, ne_eqb}
 use Rattle.laws.specs.Lists.{All, Fresh, Distinct}
 use Rattle.laws.proofs.Bools.{and_left, and_right}
 use Rattle.laws.proofs.Choices.{by_bool, clash}
-use Rattle.laws.proofs.Lists.{all_map, all_both, distinct_append, map-all}
+use Rattle.laws.proofs.Lists.{all_map, all_both, distinct_append, map_all}
 use Rattle.model.specs.Signal.{from_var}
 use Rattle.model.specs.Network.{has}
 use Rattle.model.specs.Normal.{without}
 use Rattle.model.specs.Sharing.{Pair, State, exclusive_signals, factoring, give_back, holds, join_round, once, replace_in, replace_pair, retain, round_left, round_pairs, shared_signals, take_out}
-use Rattle.model.proofs.Lists.{by-keep, without_all, without_stays}
+use Rattle.model.proofs.Lists.{by_keep, without_all, without_stays}
 use Rattle.shape.proofs.Members.{has_tail}
 use Rattle.shape.proofs.FactoringLists.{replace_in_all, retain_all}
 use Rattle.shape.proofs.FactoringFuel.{Two, TwoIn}
@@ -32,7 +32,7 @@ use Rattle.meaning.proofs.FamilyValues.{val_append, val_retain}
 without_distinct : (x : ℕ) (l : List ℕ) → Distinct l → Distinct (without x l)
 unfolding without
 without_distinct x [] d = tt
-without_distinct x (y ∷ l) d = by-keep Distinct y x y (without x l) (λ e. without_distinct x l d.1) (λ e. (without_all (λ z. z ≢ y) x l d.0, without_distinct x l d.1))
+without_distinct x (y ∷ l) d = by_keep Distinct y x y (without x l) (λ e. without_distinct x l d.1) (λ e. (without_all (λ z. z ≢ y) x l d.0, without_distinct x l d.1))
 
 without_has : (x y : ℕ) (l : List ℕ) → y ≢ x → has y l ≡ true → has y (without x l) ≡ true
 unfolding without
@@ -199,9 +199,9 @@ module _ (F : Monoid) (n₀ : ℕ) where
               ∙ h.valued.values ρ (built_left F ρ n₀ s.built (x ∷ []) bu);
         };
         distinct =
-            map-all Distinct (replace_in a b (from_var s.next)) s.lists (λ l q. replaced_distinct a b s.next l few q.0 q.1)
+            map_all Distinct (replace_in a b (from_var s.next)) s.lists (λ l q. replaced_distinct a b s.next l few q.0 q.1)
             (all_both (All (Low s.next)) Distinct s.lists h.low h.distinct);
-        low = map-all (All (Low (suc s.next))) (replace_in a b (from_var s.next)) s.lists (replaced_low a b s.next) h.low;
+        low = map_all (All (Low (suc s.next))) (replace_in a b (from_var s.next)) s.lists (replaced_low a b s.next) h.low;
       }
 
   valued_round : (gs : List (List ℕ)) (s : State) (i : ℕ) → Valued gs s → Valued gs (join_round s i)
@@ -229,8 +229,8 @@ module _ (F : Monoid) (n₀ : ℕ) where
         (consume_keeps (Kept hs) (kept_replace hs) _ (length gs)
         (λ few. record {
           valued = record { next_is = omega arith; values = λ ρ bu. refl };
-          distinct = map-all Distinct (retain t) gs (retain_distinct t) tidy;
-          low = map-all (All (Low n₀)) (retain t) gs (retain_all (Low n₀) t) old;
+          distinct = map_all Distinct (retain t) gs (retain_distinct t) tidy;
+          low = map_all (All (Low n₀)) (retain t) gs (retain_all (Low n₀) t) old;
         }))
 
     given_valued : (given gs n₀).next ≤ 1073741823 → Valued gs (given gs n₀)

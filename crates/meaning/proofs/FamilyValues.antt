@@ -10,7 +10,7 @@ use Rattle.kinds.specs.declared.Kind.{Kind}
 use Rattle.kinds.specs.declared.Kind.TheVariants.{And2, Xor2, And3, Xor3, Maj, Mux, AndN, OrN, NandN, NorN, XorN, XnorN, Buf, Dff, Lut}
 use Rattle.kinds.specs.declared.Family.{Family}
 use Rattle.kinds.specs.declared.Family.TheVariants.{And, Xor}
-use Rattle.laws.proofs.Bools.{true-false}
+use Rattle.laws.proofs.Bools.{true_false}
 use Rattle.laws.proofs.Choices.{by_bool}
 use Rattle.model.specs.Signal.{Ref, rzero, rnode, rinput, flip, ref_ix, ref, from_var, remap_order, remap_ref}
 use Rattle.model.specs.Gate.{Gate, Net, Valid, is_dff, gate_at, size, is_topo_sorted}
@@ -52,26 +52,26 @@ module _ (F : Monoid) (ρ : ℕ → Bool) where
 value_of_kind : (k : Kind) (f : Family) (ρ : ℕ → Bool) (l : List ℕ) (t : ℕ) → in_family k f ≡ true → value_of k (map ρ l) t ≡ val (monoid_of f) ρ l
 unfolding value_of
 value_of_kind And2 And ρ l t e = val_and ρ l
-value_of_kind And2 Xor ρ l t e = true-false (sym e)
-value_of_kind Xor2 And ρ l t e = true-false (sym e)
+value_of_kind And2 Xor ρ l t e = true_false (sym e)
+value_of_kind Xor2 And ρ l t e = true_false (sym e)
 value_of_kind Xor2 Xor ρ l t e = val_xor ρ l
 value_of_kind And3 And ρ l t e = val_and ρ l
-value_of_kind And3 Xor ρ l t e = true-false (sym e)
-value_of_kind Xor3 And ρ l t e = true-false (sym e)
+value_of_kind And3 Xor ρ l t e = true_false (sym e)
+value_of_kind Xor3 And ρ l t e = true_false (sym e)
 value_of_kind Xor3 Xor ρ l t e = val_xor ρ l
-value_of_kind Maj f ρ l t e = true-false (sym e)
-value_of_kind Mux f ρ l t e = true-false (sym e)
+value_of_kind Maj f ρ l t e = true_false (sym e)
+value_of_kind Mux f ρ l t e = true_false (sym e)
 value_of_kind AndN And ρ l t e = val_and ρ l
-value_of_kind AndN Xor ρ l t e = true-false (sym e)
-value_of_kind OrN f ρ l t e = true-false (sym e)
-value_of_kind NandN f ρ l t e = true-false (sym e)
-value_of_kind NorN f ρ l t e = true-false (sym e)
-value_of_kind XorN And ρ l t e = true-false (sym e)
+value_of_kind AndN Xor ρ l t e = true_false (sym e)
+value_of_kind OrN f ρ l t e = true_false (sym e)
+value_of_kind NandN f ρ l t e = true_false (sym e)
+value_of_kind NorN f ρ l t e = true_false (sym e)
+value_of_kind XorN And ρ l t e = true_false (sym e)
 value_of_kind XorN Xor ρ l t e = val_xor ρ l
-value_of_kind XnorN f ρ l t e = true-false (sym e)
-value_of_kind Buf f ρ l t e = true-false (sym e)
-value_of_kind Dff f ρ l t e = true-false (sym e)
-value_of_kind Lut f ρ l t e = true-false (sym e)
+value_of_kind XnorN f ρ l t e = true_false (sym e)
+value_of_kind Buf f ρ l t e = true_false (sym e)
+value_of_kind Dff f ρ l t e = true_false (sym e)
+value_of_kind Lut f ρ l t e = true_false (sym e)
 
 -- a gate of the family has the family's value of its inputs
 pub value_of_family : (f : Family) (i v : ℕ → Bool) (g : Gate) → inside f g ≡ true → gate_value i v g ≡ val (monoid_of f) (signal_value i v) g.ins

@@ -10,9 +10,9 @@ use Rattle.kinds.specs.Kinds.{kind_of, is_flip_flop}
 use Rattle.kinds.specs.declared.Kind.{Kind}
 use Rattle.kinds.specs.declared.Kind.TheVariants.{And2, Xor2, And3, Xor3, Maj, Mux, AndN, OrN, NandN, NorN, XorN, XnorN, Buf, Dff, Lut}
 use Rattle.laws.specs.Bools.{xor}
-use Rattle.laws.proofs.Bools.{true-false, and_right, taut1, taut2, taut3}
-use Rattle.laws.proofs.Lists.{all-each, by_three}
-use Rattle.laws.proofs.Choices.{by-or3}
+use Rattle.laws.proofs.Bools.{true_false, and_right, taut1, taut2, taut3}
+use Rattle.laws.proofs.Lists.{all_each, by_three}
+use Rattle.laws.proofs.Choices.{by_or3}
 use Rattle.model.specs.Signal.{neg, from_bool}
 use Rattle.model.specs.Gate.{Gate, is_dff, fits_code, shaped}
 use Rattle.model.specs.Evaluate.{value_of, next_state, signal_value, gate_value, all_of, odd_of}
@@ -70,7 +70,7 @@ module _ (i v : ℕ → Bool) (P : ℕ → Type 0) where
   normal_k_ok XorN l t s o e h = ok_is i v P _ _ _ (xor_n_ok i v P l false h) (sym (val_xor q l))
   normal_k_ok XnorN l t s o e h = ok_is i v P _ _ _ (xor_n_ok i v P l true h) (ap not (sym (val_xor q l)))
   normal_k_ok Buf l t s o e h = on1_ok _ _ (λ l. value_of Buf (map q l) t) l h o (λ a na. copy_ok i v P a _ refl na)
-  normal_k_ok Dff l t s o e h = true-false e
+  normal_k_ok Dff l t s o e h = true_false e
   normal_k_ok Lut l t s o e h = o
 
   -- THE VALUE LAW: a combinational gate's normal form has the gate's value, is combinational, and names what the gate names
@@ -80,7 +80,7 @@ module _ (i v : ℕ → Bool) (P : ℕ → Type 0) where
 
 -- THE VALUE: under every valuation, a combinational gate's normal form has the gate's value
 pub value_of_canonical : (i v : ℕ → Bool) (g : Gate) → is_dff g ≡ false → norm_value i v (make_canonical g) ≡ gate_value i v g
-value_of_canonical i v g e = (canonical_ok i v (λ n. Unit) g e (all-each (Names (λ n. Unit)) g.ins (λ s m q. tt))).value
+value_of_canonical i v g e = (canonical_ok i v (λ n. Unit) g e (all_each (Names (λ n. Unit)) g.ins (λ s m q. tt))).value
 
 -- ---- flip-flops
 
@@ -92,7 +92,7 @@ Stuck l = (i v : ℕ → Bool) → next_state (map (signal_value i v) l) false �
 pub dff_cell : (d en res : ℕ) → (make_dff d en res false ≡ made3 Dff d en res false) ⊎ ((make_dff d en res false ≡ copied 0) × Stuck (d ∷ en ∷ res ∷ []))
 unfolding make_dff next_state
 dff_cell d en res =
-    by-or3 Q d 0 en 0 res 1
+    by_or3 Q d 0 en 0 res 1
     (λ e. inr (zero, λ i v. cc (ρ_zero i v) ∙ taut2 (λ b c. cond b (cond c false false) false) (λ b c. false) tt (signal_value i v en) (signal_value i v res)))
     (λ e. inr (zero, λ i v. cc (ρ_zero i v)))
     (λ e. inr (zero, λ i v. cc (ρ_one i v) ∙ taut1 (λ b. cond b false false) (λ b. false) tt (signal_value i v en)))

@@ -9,13 +9,13 @@ use borrow.Author.Tests.{eq-eqb, ne_eqb}
 use Rattle.kinds.specs.Kinds.{kind_of}
 use Rattle.laws.specs.Bools.{xor}
 use Rattle.laws.proofs.Bools.{xor_assoc, xor_comm, and_assoc, and_comm, taut1, taut2, taut3, taut4}
-use Rattle.laws.proofs.Choices.{by-eq, by-test}
-use Rattle.laws.proofs.Lists.{map-all}
+use Rattle.laws.proofs.Choices.{by_eq, by_test}
+use Rattle.laws.proofs.Lists.{map_all}
 use Rattle.model.specs.Signal.{is_inverted, flip, neg, without_inversion}
 use Rattle.model.specs.Evaluate.{value_of, signal_value, gate_value, all_of, any_of, odd_of}
 use Rattle.model.specs.Normal.{without, insert, sorted, uniq, opposed, and_some, and_wide, and_tidy, make_and_n, parity, cancel, xor_some, make_xor_n}
 use Rattle.model.proofs.Words.{one_ref}
-use Rattle.model.proofs.Lists.{by-keep, sorted_all, without_all, uniq-all, cancel-all}
+use Rattle.model.proofs.Lists.{by_keep, sorted_all, without_all, uniq_all, cancel_all}
 use Rattle.model.proofs.Names.{Names, In, zero_names}
 use Rattle.meaning.proofs.Values.{value_flip, Ok, ρ_zero, ρ_one, ρ_neg, ρ_plain, names_flip, names_plain, copy_ok, bool_ok, ok_is, and_ok, xor_ok, and3_ok, xor3_ok}
 
@@ -57,7 +57,7 @@ module _ (F : Monoid) (ρ : ℕ → Bool) where
   unfolding insert
   insert_val x [] = refl
   insert_val x (y ∷ l) =
-      by-test (λ m. val F ρ m ≡ F.op (ρ x) (F.op (ρ y) (val F ρ l))) (leb x y) (λ e. refl)
+      by_test (λ m. val F ρ m ≡ F.op (ρ x) (F.op (ρ y) (val F ρ l))) (leb x y) (λ e. refl)
       (λ e. ap (F.op (ρ y)) (insert_val x l) ∙ op_swap F (ρ y) (ρ x) (val F ρ l))
 
   sorted_val : (l : List ℕ) → val F ρ (sorted l) ≡ val F ρ l
@@ -79,7 +79,7 @@ unfolding uniq
 uniq_val ρ [] = refl
 uniq_val ρ (x ∷ []) = refl
 uniq_val ρ (x ∷ y ∷ l) =
-    by-keep (λ m. val and_f ρ m ≡ ρ x && (ρ y && val and_f ρ l)) x y x (uniq (y ∷ l))
+    by_keep (λ m. val and_f ρ m ≡ ρ x && (ρ y && val and_f ρ l)) x y x (uniq (y ∷ l))
     (λ e. uniq_val ρ (y ∷ l) ∙ taut2 (λ y l. y && l) (λ y l. y && (y && l)) tt (ρ y) (val and_f ρ l) ∙ cc)
     (λ e. ap (λ b. ρ x && b) (uniq_val ρ (y ∷ l)))
 
@@ -108,7 +108,7 @@ module _ (i v : ℕ → Bool) where
     unfolding and_wide
     and_wide_ok [] z h = copy_ok i v P (flip 1 z) _ (cc (value_flip i v 1 z, ρ_one i v)) (names_flip P 1 z (λ m e. zero_names one_ref e))
     and_wide_ok (x ∷ l) z h =
-        by-eq (Ok i v P (xor z (val and_f (signal_value i v) (x ∷ l)))) x 0
+        by_eq (Ok i v P (xor z (val and_f (signal_value i v) (x ∷ l)))) x 0
         (λ e. bool_ok i v P z _ (taut1 (λ z. z) (λ z. xor z false) tt z ∙ cc (ρ_zero i v)))
         (λ e. and_some_ok x l z h.0 h.1)
 
@@ -118,9 +118,9 @@ module _ (i v : ℕ → Bool) where
         let m = uniq (sorted (without 1 l)) in
         let same : val and_f (signal_value i v) m ≡ val and_f (signal_value i v) l =
         uniq_val (signal_value i v) (sorted (without 1 l)) ∙ sorted_val and_f (signal_value i v) (without 1 l) ∙ without_val and_f (signal_value i v) 1 l (ρ_one i v) in
-        by-test (Ok i v P (xor z (val and_f (signal_value i v) l))) (opposed m)
+        by_test (Ok i v P (xor z (val and_f (signal_value i v) l))) (opposed m)
         (λ e. bool_ok i v P z _ (taut1 (λ z. z) (λ z. xor z false) tt z ∙ ap (xor z) (sym (opposed_val m e) ∙ same)))
-        (λ e. ok_is i v P _ _ _ (and_wide_ok m z (uniq-all (Names P) (sorted (without 1 l)) (sorted_all (Names P) (without 1 l) (without_all (Names P) 1 l h)))) (ap (xor z) same))
+        (λ e. ok_is i v P _ _ _ (and_wide_ok m z (uniq_all (Names P) (sorted (without 1 l)) (sorted_all (Names P) (without 1 l) (without_all (Names P) 1 l h)))) (ap (xor z) same))
 
 -- ---- Xor
 
@@ -129,7 +129,7 @@ unfolding cancel
 cancel_val ρ [] = refl
 cancel_val ρ (x ∷ []) = refl
 cancel_val ρ (x ∷ y ∷ l) =
-    by-eq (λ m. val xor_f ρ m ≡ xor (ρ x) (xor (ρ y) (val xor_f ρ l))) x y
+    by_eq (λ m. val xor_f ρ m ≡ xor (ρ x) (xor (ρ y) (val xor_f ρ l))) x y
     (λ e. cancel_val ρ l ∙ taut2 (λ y l. l) (λ y l. xor y (xor y l)) tt (ρ y) (val xor_f ρ l) ∙ cc)
     (λ e. ap (xor (ρ x)) (cancel_val ρ (y ∷ l)))
 
@@ -142,7 +142,7 @@ module _ (i v : ℕ → Bool) (P : ℕ → Type 0) where
       ∙ taut4 (λ a b c d. xor (xor a b) (xor c d)) (λ a b c d. xor (xor a c) (xor b d)) tt (is_inverted s) (signal_value i v (without_inversion s)) (parity l) (val xor_f (signal_value i v) (map without_inversion l))
 
   plain_in : (l : List ℕ) → In P l → In P (map without_inversion l)
-  plain_in l = map-all (Names P) without_inversion l (names_plain P)
+  plain_in l = map_all (Names P) without_inversion l (names_plain P)
 
   xor_some_ok : (l : List ℕ) (z : Bool) → In P l → Ok i v P (xor z (val xor_f (signal_value i v) l)) (xor_some l z)
   unfolding gate_value value_of kind_of xor_some
@@ -163,7 +163,7 @@ module _ (i v : ℕ → Bool) (P : ℕ → Type 0) where
       cancel_val (signal_value i v) m ∙ sorted_val xor_f (signal_value i v) (without 0 (map without_inversion l)) ∙ without_val xor_f (signal_value i v) 0 (map without_inversion l) (ρ_zero i v) in
       ok_is i v P _ _ _
       (xor_some_ok (cancel m) (xor (parity l) z)
-      (cancel-all (Names P) m (sorted_all (Names P) (without 0 (map without_inversion l)) (without_all (Names P) 0 (map without_inversion l) (plain_in l h)))))
+      (cancel_all (Names P) m (sorted_all (Names P) (without 0 (map without_inversion l)) (without_all (Names P) 0 (map without_inversion l) (plain_in l h)))))
       (ap (xor (xor (parity l) z)) same
       ∙ taut3 (λ z p w. xor (xor p z) w) (λ z p w. xor z (xor p w)) tt z (parity l) (val xor_f (signal_value i v) (map without_inversion l))
       ∙ ap (xor z) (sym (plain_val l)))
@@ -177,4 +177,4 @@ module _ (i v : ℕ → Bool) (P : ℕ → Type 0) where
       ∙ ap (λ b. signal_value i v s || b) (neg_val l)
 
   pub neg_in : (l : List ℕ) → In P l → In P (map neg l)
-  neg_in l = map-all (Names P) neg l (λ s. names_flip P s true)
+  neg_in l = map_all (Names P) neg l (λ s. names_flip P s true)

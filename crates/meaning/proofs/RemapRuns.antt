@@ -1,4 +1,5 @@
--- remap by an order: the result carries every kept node's value, and has the same outputs in every cycle.
+-- remap by an order: the result carries every kept node's value, and a cycle's outputs and next state. The same of every cycle stands in
+-- RemapCarried.
 use mathlib.Core.Path.{◌≡◌, refl, sym, ap, ◌∙◌}
 use Prim.Native.Nat.{ℕ, ◌<◌}
 use native.Mathlib.Omega.{arith}
@@ -56,25 +57,6 @@ module _ (N : Net) (order : List ℕ) (O : Order N order) (small : size N < 1073
 
   pub related_carry : (st : ℕ → Bool) → Related N τ (Kept order) st (carry order st)
   related_carry st n k e = at_place all_zero (carry order st) n k ∙ ap st k.2
-
-  -- THE SAME OUTPUTS IN EVERY CYCLE from any state carried through the mapping, whatever the valuations, where there is no loop
-  -- among the kept nodes; and the mapped signal carries each kept node's value
-  module _ (R : Ranked N (Kept order)) (ev ev' : Eval) (s : Solves N ev) (s' : Solves N' ev') where
-    pub remap_runs : (st : ℕ → Bool) (is : List (List Bool)) → run_by N ev st is ≡ run_by N' ev' (carry order st) is
-    remap_runs st is = same_run N N' τ (Kept order) remap_carries R ev ev' s s' is st (carry order st) (related_carry st)
-
-    pub remap_zero : (is : List (List Bool)) → run_by N ev all_zero is ≡ run_by N' ev' all_zero is
-    remap_zero is = same_run N N' τ (Kept order) remap_carries R ev ev' s s' is all_zero all_zero (related_zero N N' τ (Kept order) remap_carries R)
-
-    pub remap_probe : (st : ℕ → Bool) (is : List (List Bool)) (i : List Bool) (n : ℕ) → Kept order n
-        → signal_value (at i) (ev' (at i) (after_by N' ev' (carry order st) is)) (τ n) ≡ ev (at i) (after_by N ev st is) n
-    remap_probe st is i n k = probe N N' τ (Kept order) remap_carries R ev ev' s s' is i st (carry order st) (related_carry st) n k
-
-  -- a network with a sorted order of all its nodes has a valuation: that of the sorted one, read back through the mapping
-  pub remap_solves : Topo N order → ((n : ℕ) → n < size N → Kept order n) → Solves N (λ i st. pull i (evaluate N' i (carry order st)) τ)
-  remap_solves topo full i st n h =
-      pull_consistent N N' τ (Kept order) remap_carries (remap_ranked N order O topo) i st (carry order st) (evaluate N' i (carry order st))
-      (evaluate_consistent N' (remap_sorted N order O small topo) i (carry order st)) (related_carry st) n (full n h)
 
   -- ---- one cycle, loops or not: a valuation of N, carried over, is one of the result
 

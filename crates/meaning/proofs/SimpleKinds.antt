@@ -16,9 +16,9 @@ use Rattle.kinds.specs.declared.Family.{Family}
 use Rattle.kinds.specs.declared.Family.TheVariants.{And, Xor}
 use Rattle.laws.specs.Bools.{bit}
 use Rattle.laws.specs.Lists.{All}
-use Rattle.laws.proofs.Bools.{true-false, and_left, and_right, or-true}
-use Rattle.laws.proofs.Lists.{all_of, by_one, by_two, by_three, all-at, all_append, all_map}
-use Rattle.laws.proofs.Choices.{by_bool, by-test, clash}
+use Rattle.laws.proofs.Bools.{true_false, and_left, and_right, or-true}
+use Rattle.laws.proofs.Lists.{all_of, by_one, by_two, by_three, all_at, all_append, all_map}
+use Rattle.laws.proofs.Choices.{by_bool, by_test, clash}
 use Rattle.model.specs.Signal.{neg, is_inverted, remap_order}
 use Rattle.model.specs.Gate.{Gate, Net, Valid, no_gate, is_dff, remap_gate, fits_kind, shaped, size, is_topo_sorted}
 use Rattle.model.specs.Normal.{Norm, copied, made, gate_of, made2, made3, and_sorted, make_and, xor_sorted, make_xor, and3_sorted, make_and3, xor3_sorted, make_xor3, mux_plain, mux_select, make_mux, maj_plain, maj_sorted, make_maj, make_dff, opposed, and_some, and_wide, and_tidy, make_and_n, xor_some, make_xor_n, normal_k, make_canonical, no_inv, proper, canonical_k, is_canonical}
@@ -68,7 +68,7 @@ module _ (q : Kind → Type 0) where
   gate_of_lem k l z c = record { of = λ h y e. let r : gate_of k l ≡ h = cc in subst (λ (h : Gate). q (kind_of h.kind)) r (rw (kind_code k) c) }
 
   either : (t : Bool) {a b : Norm} → Of q a → Of q b → Of q (cond t a b)
-  either t x y = by-test (Of q) t (λ e. x) (λ e. y)
+  either t x y = by_test (Of q) t (λ e. x) (λ e. y)
 
   module _ (two : q And2) where
     and_sorted_of : (x y : ℕ) (z : Bool) → Of q (and_sorted x y z)
@@ -234,15 +234,15 @@ kind_cost Maj l t e s = refl
 kind_cost Mux l t e s = refl
 kind_cost Dff l t e s = refl
 kind_cost Lut l t e s = refl
-kind_cost And3 l t e s = true-false (sym s)
-kind_cost Xor3 l t e s = true-false (sym s)
-kind_cost AndN l t e s = true-false (sym s)
-kind_cost OrN l t e s = true-false (sym s)
-kind_cost NandN l t e s = true-false (sym s)
-kind_cost NorN l t e s = true-false (sym s)
-kind_cost XorN l t e s = true-false (sym s)
-kind_cost XnorN l t e s = true-false (sym s)
-kind_cost Buf l t e s = true-false (sym s)
+kind_cost And3 l t e s = true_false (sym s)
+kind_cost Xor3 l t e s = true_false (sym s)
+kind_cost AndN l t e s = true_false (sym s)
+kind_cost OrN l t e s = true_false (sym s)
+kind_cost NandN l t e s = true_false (sym s)
+kind_cost NorN l t e s = true_false (sym s)
+kind_cost XorN l t e s = true_false (sym s)
+kind_cost XnorN l t e s = true_false (sym s)
+kind_cost Buf l t e s = true_false (sym s)
 
 -- a combinational gate of a simple kind costs one
 pub simple_cost : (g : Gate) → shaped g ≡ true → is_simple (kind_of g.kind) ≡ true → cost g ≡ bit (not (is_dff g))
@@ -300,11 +300,11 @@ kind_canonical Xor3 l t e c = canonical_kind (gate_with Xor3 l t) refl refl (inr
 kind_canonical AndN l t e c = canonical_kind (gate_with AndN l t) refl refl (inr (And, refl, (let n = ltb-true 3 (length l) (and_right (proper l) (ltb 3 (length l)) c) in omega arith)))
 kind_canonical XorN l t e c =
     canonical_kind (gate_with XorN l t) refl refl (inr (Xor, refl, (let n = ltb-true 3 (length l) (and_right (proper l) (ltb 3 (length l)) (and_left (proper l && ltb 3 (length l)) (no_inv l) c)) in omega arith)))
-kind_canonical OrN l t e c = true-false (sym c)
-kind_canonical NandN l t e c = true-false (sym c)
-kind_canonical NorN l t e c = true-false (sym c)
-kind_canonical XnorN l t e c = true-false (sym c)
-kind_canonical Buf l t e c = true-false (sym c)
+kind_canonical OrN l t e c = true_false (sym c)
+kind_canonical NandN l t e c = true_false (sym c)
+kind_canonical NorN l t e c = true_false (sym c)
+kind_canonical XnorN l t e c = true_false (sym c)
+kind_canonical Buf l t e c = true_false (sym c)
 
 gate_canonical : (g : Gate) → shaped g ≡ true → is_canonical g ≡ true → CanonicalKind g
 unfolding is_canonical
@@ -337,7 +337,7 @@ pairs_renamed f τ g p = rw (length-map g.ins (remap_order τ)) p
 
 pub canonical_pairs : (f : Family) (N : Net) → Valid N → All (Pairs f) N.nodes → All (Pairs f) (canonical N).nodes
 unfolding kind_of
-canonical_pairs f N A = canonical_all N A.gates_shaped (Pairs f) (Pairs f) (pairs_renamed f) normal (λ l e. true-false (sym e))
+canonical_pairs f N A = canonical_all N A.gates_shaped (Pairs f) (Pairs f) (pairs_renamed f) normal (λ l e. true_false (sym e))
   where
     normal : (g h : Gate) (z : Bool) → shaped g ≡ true → Pairs f g → make_canonical g ≡ made h z → Canon (made h z) → Pairs f h
     normal g h z e p q c = go (normal_from g h z e q)
@@ -378,8 +378,8 @@ unfolding topo_sort
 sort_all N A ok P renamed h =
     all_of P (remap (topo_order N) N).nodes no_gate (λ j l.
     let k : j < length (topo_order N) = omega (arith, remap_size N (topo_order N)) in
-    let i : get_or (topo_order N) j 0 < size N = all-at (λ o. o < size N) (topo_order N) 0 (sort_order N A.signals ok).bound j k in
-    subst P (sym (remap_gate_lem N (topo_order N) j k)) (renamed _ _ (all-at P N.nodes no_gate h (get_or (topo_order N) j 0) i)))
+    let i : get_or (topo_order N) j 0 < size N = all_at (λ o. o < size N) (topo_order N) 0 (sort_order N A.signals ok).bound j k in
+    subst P (sym (remap_gate_lem N (topo_order N) j k)) (renamed _ _ (all_at P N.nodes no_gate h (get_or (topo_order N) j 0) i)))
 
 module _ (f : Family) (N : Net) (A : Valid N) (t : is_topo_sorted N ≡ true) (none : pass_refusal f N ≡ 0) where
   pub pass_kinds : All CanonicalKind (factor_gates f N).nodes
@@ -391,7 +391,7 @@ module _ (f : Family) (N : Net) (A : Valid N) (t : is_topo_sorted N ≡ true) (n
   grown_pairs e h =
       canonical_pairs e (topo_sort (grown f N)) (pass_source f N A t none)
       (sort_all (grown f N) (pass_grown f N A t none) (pass_sorts f N A t none) (Pairs e) (pairs_renamed e)
-      (grown_all f (Pairs e) (λ l q. true-false (sym q)) (λ x q. omega arith) N h))
+      (grown_all f (Pairs e) (λ l q. true_false (sym q)) (λ x q. omega arith) N h))
 
   -- A PASS LEAVES two-input gates of its family
   pub pass_pairs : All CanonicalKind N.nodes → All (Pairs f) (factor_gates f N).nodes

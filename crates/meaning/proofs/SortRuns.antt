@@ -13,7 +13,8 @@ use Rattle.shape.proofs.Wires.{wired_inside}
 use Rattle.shape.proofs.Remap.{remap_ranked}
 use Rattle.shape.proofs.Sort.{sort_order, sort_topo, sort_sorted, place}
 use Rattle.meaning.proofs.Valuations.{pull}
-use Rattle.meaning.proofs.RemapRuns.{carry, remap_runs, remap_zero, remap_probe, remap_solves}
+use Rattle.meaning.proofs.RemapRuns.{carry}
+use Rattle.meaning.proofs.RemapCarried.{remap_runs, remap_zero, remap_probe, remap_solves}
 
 module _ (N : Net) (A : Valid N) (ok : sorts N ≡ true) where
   order : Order N (topo_order N)

@@ -14,8 +14,8 @@ use Rattle.kinds.specs.declared.Kind.{Kind}
 use Rattle.kinds.specs.declared.Kind.TheVariants.{And2, Xor2, And3, Xor3, Maj, Mux, AndN, OrN, NandN, NorN, XorN, XnorN, Buf, Dff, Lut}
 use Rattle.kinds.specs.declared.Family.{Family}
 use Rattle.laws.specs.Lists.{All, Distinct}
-use Rattle.laws.proofs.Bools.{true-false, and_left, and_right}
-use Rattle.laws.proofs.Lists.{all-each, all-at, all_append, all_map, map-all}
+use Rattle.laws.proofs.Bools.{true_false, and_left, and_right}
+use Rattle.laws.proofs.Lists.{all_each, all_at, all_append, all_map, map_all}
 use Rattle.laws.proofs.Choices.{by_bool}
 use Rattle.model.specs.Signal.{remap_order}
 use Rattle.model.specs.Gate.{Gate, Net, Valid, is_dff, remap_gate, no_gate, gate_at, size, fits_kind, shaped, all_shaped, is_topo_sorted}
@@ -54,7 +54,7 @@ module _ (N : Net) (ok : all_shaped N.nodes ≡ true) (R P : Gate → Type 0)
   asked_made τ n l h z e =
       let s = asked_shaped N ok τ n l in
       let c : Canon (made h z) = subst Canon e (canon_of_canonical (asked_gate make_canonical N τ n) s) in
-      (c.fits, normal (asked_gate make_canonical N τ n) h z s (asked_keeps N R renamed τ n (all-at R N.nodes no_gate source n l)) e c)
+      (c.fits, normal (asked_gate make_canonical N τ n) h z s (asked_keeps N R renamed τ n (all_at R N.nodes no_gate source n l)) e c)
 
   news_made : (b : Bool) (k : ℕ) → k ≤ size N → All Made (up_to make_canonical N b k).news
   news_made = sweep make_canonical N (λ b k d. All Made d.news) (rw (up_to_start make_canonical N) tt) turn (λ b k h e p. p) (λ p. p)
@@ -70,7 +70,7 @@ module _ (N : Net) (ok : all_shaped N.nodes ≡ true) (R P : Gate → Type 0)
   turned : (τ : ℕ → ℕ) (l : List Gate) → All Made l → All P (map (remap_dff make_canonical N τ) l)
   unfolding Made
   turned τ l =
-      map-all P (remap_dff make_canonical N τ) l
+      map_all P (remap_dff make_canonical N τ) l
       (λ g h. by_bool (is_dff g) (λ d. rw d (subst P (sym (ap (remap_gate τ) (dff_is g h.0 d))) (cell (map (remap_order τ) g.ins)))) (λ d. rw d h.1))
 
   pub canonical_all : All P (canonical N).nodes
@@ -105,15 +105,15 @@ kind_several f AndN l t e c i = record {
 kind_several f XorN l t e c i =
     let d = and_left (proper l && ltb 3 (length l)) (no_inv l) c in
     record { many = (let n = ltb-true 3 (length l) (and_right (proper l) (ltb 3 (length l)) d) in omega arith); distinct = proper_distinct l (and_left (proper l) (ltb 3 (length l)) d) }
-kind_several f Maj l t e c i = true-false (sym i)
-kind_several f Mux l t e c i = true-false (sym i)
-kind_several f OrN l t e c i = true-false (sym i)
-kind_several f NandN l t e c i = true-false (sym i)
-kind_several f NorN l t e c i = true-false (sym i)
-kind_several f XnorN l t e c i = true-false (sym i)
-kind_several f Buf l t e c i = true-false (sym i)
-kind_several f Dff l t e c i = true-false (sym i)
-kind_several f Lut l t e c i = true-false (sym i)
+kind_several f Maj l t e c i = true_false (sym i)
+kind_several f Mux l t e c i = true_false (sym i)
+kind_several f OrN l t e c i = true_false (sym i)
+kind_several f NandN l t e c i = true_false (sym i)
+kind_several f NorN l t e c i = true_false (sym i)
+kind_several f XnorN l t e c i = true_false (sym i)
+kind_several f Buf l t e c i = true_false (sym i)
+kind_several f Dff l t e c i = true_false (sym i)
+kind_several f Lut l t e c i = true_false (sym i)
 
 family_several : (f : Family) (g : Gate) → shaped g ≡ true → is_canonical g ≡ true → inside f g ≡ true → Several g
 unfolding is_canonical
@@ -126,8 +126,8 @@ canonical_several f N A t =
     canonical_all N A.gates_shaped (λ g. Unit {0}) (λ g. inside f g ≡ true → Several g)
     (λ τ g r. tt)
     (λ g h z e r q c. family_several f h c.fits c.is)
-    (λ l i. true-false (sym i))
-    (all-each (λ g. Unit {0}) N.nodes (λ g. tt))
+    (λ l i. true_false (sym i))
+    (all_each (λ g. Unit {0}) N.nodes (λ g. tt))
 
 -- CANONICAL NETWORKS ARE TIDY
 pub canonical_tidy : (f : Family) (N : Net) → Valid N → is_topo_sorted N ≡ true → Tidy f (canonical N)

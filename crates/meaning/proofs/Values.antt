@@ -9,8 +9,8 @@ use Rattle.model.specs.Evaluate.{value_of, ref_value, signal_value, gate_value}
 use Rattle.model.specs.Normal.{Norm, copied, made, made2, made3, least, most, low3, mid3, high3, and_sorted, make_and, xor_sorted, make_xor, and3_sorted, make_and3, xor3_sorted, make_xor3, mux_plain, mux_select, make_mux, maj_plain, maj_sorted, make_maj, norm_value}
 use Rattle.model.proofs.Words.{flip_ref, flip_inv, zero_ref, zero_inv, one_is, plain_ref, plain_inv}
 use Rattle.model.proofs.Names.{Names, In, zero_names}
-use Rattle.model.proofs.Order.{sort2-ok, sort3-ok}
-use Rattle.laws.proofs.Choices.{by-eq, by-or, by-or3, by-test}
+use Rattle.model.proofs.Order.{sort2_ok, sort3_ok}
+use Rattle.laws.proofs.Choices.{by_eq, by_or, by_or3, by_test}
 use Rattle.laws.proofs.Bools.{xor_false, xor_assoc, xor_comm, taut2, taut3, taut4, taut5, taut7}
 
 pub value_flip : (i v : ℕ → Bool) (s : ℕ) (b : Bool) → signal_value i v (flip s b) ≡ xor b (signal_value i v s)
@@ -82,10 +82,10 @@ module _ (i v : ℕ → Bool) (P : ℕ → Type 0) where
   and_sorted_ok : (x y : ℕ) (z : Bool) → Names P x → Names P y → Ok i v P (xor z (r x && r y)) (and_sorted x y z)
   unfolding gate_value value_of kind_of and_sorted made2
   and_sorted_ok x y z nx ny =
-      by-or Q x 0 x (neg y)
+      by_or Q x 0 x (neg y)
       (λ e. bool_ok z _ (taut2 (λ z y. z) (λ z y. xor z (false && y)) tt z (r y) ∙ cc (ρ_zero i v)))
       (λ e. bool_ok z _ (taut2 (λ z y. z) (λ z y. xor z (not y && y)) tt z (r y) ∙ cc (ρ_neg i v y)))
-      (by-or Q x 1 x y
+      (by_or Q x 1 x y
       (λ e. copy_ok (flip y z) _ (cc (value_flip i v y z, ρ_one i v)) (names_flip P y z ny))
       (λ e. copy_ok (flip y z) _ (value_flip i v y z ∙ taut2 (λ z y. xor z y) (λ z y. xor z (y && y)) tt z (r y) ∙ cc) (names_flip P y z ny))
       (record { value = taut3 (λ z x y. xor z (x && (y && true))) (λ z x y. xor z (x && y)) tt z (r x) (r y); comb = refl; names = (nx, (ny, tt)) }))
@@ -101,7 +101,7 @@ module _ (i v : ℕ → Bool) (P : ℕ → Type 0) where
 
   sym2 : (f : Bool → Bool → Bool) → ((a b : Bool) → f b a ≡ f a b) → (a b : ℕ) → Names P a → Names P b → Sym2 f (f (r a) (r b)) (least a b) (most a b)
   sym2 f c a b na nb =
-      sort2-ok (Sym2 f (f (r a) (r b))) a b (record { is = refl; nx = na; ny = nb }) (record { is = c (r a) (r b); nx = nb; ny = na })
+      sort2_ok (Sym2 f (f (r a) (r b))) a b (record { is = refl; nx = na; ny = nb }) (record { is = c (r a) (r b); nx = nb; ny = na })
 
   pub and_ok : (a b : ℕ) (z : Bool) → Names P a → Names P b → Ok i v P (xor z (r a && r b)) (make_and a b z)
   unfolding make_and
@@ -112,9 +112,9 @@ module _ (i v : ℕ → Bool) (P : ℕ → Type 0) where
   xor_sorted_ok : (x y : ℕ) (z : Bool) → Names P x → Names P y → Ok i v P (xor z (xor (r x) (r y))) (xor_sorted x y z)
   unfolding gate_value value_of kind_of xor_sorted made2
   xor_sorted_ok x y z nx ny =
-      by-eq (Ok i v P (xor z (xor (r x) (r y)))) x 0
+      by_eq (Ok i v P (xor z (xor (r x) (r y)))) x 0
       (λ e. copy_ok (flip y z) _ (cc (value_flip i v y z, ρ_zero i v)) (names_flip P y z ny))
-      (λ d. by-eq (Ok i v P (xor z (xor (r x) (r y)))) x y
+      (λ d. by_eq (Ok i v P (xor z (xor (r x) (r y)))) x y
       (λ e. bool_ok z _ (taut2 (λ z y. z) (λ z y. xor z (xor y y)) tt z (r y) ∙ cc))
       (λ d'. record { value = taut3 (λ z x y. xor z (xor x (xor y false))) (λ z x y. xor z (xor x y)) tt z (r x) (r y); comb = refl; names = (nx, (ny, tt)) }))
 
@@ -132,28 +132,28 @@ module _ (i v : ℕ → Bool) (P : ℕ → Type 0) where
   mux_plain_ok : (s a b : ℕ) (z : Bool) → Names P s → Names P a → Names P b → Ok i v P (xor z (cond (r s) (r a) (r b))) (mux_plain s a b z)
   unfolding gate_value value_of kind_of mux_plain made3
   mux_plain_ok s a b z ns na nb =
-      by-or Q s 0 a b
+      by_or Q s 0 a b
       (λ e. copy_ok (flip b z) _ (cc (value_flip i v b z, ρ_zero i v)) (names_flip P b z nb))
       (λ e. copy_ok (flip b z) _ (value_flip i v b z ∙ taut3 (λ z s b. xor z b) (λ z s b. xor z (cond s b b)) tt z (r s) (r b) ∙ cc) (names_flip P b z nb))
-      (by-or Q s a a 1
+      (by_or Q s a a 1
       (λ e. ok_is _ _ _ (and_ok (neg s) (neg b) (not z) (names_flip P s true ns) (names_flip P b true nb))
       (cc (ρ_neg i v s, ρ_neg i v b) ∙ taut3 (λ z s b. xor (not z) (not s && not b)) (λ z s b. xor z (cond s s b)) tt z (r s) (r b) ∙ cc))
       (λ e. ok_is _ _ _ (and_ok (neg s) (neg b) (not z) (names_flip P s true ns) (names_flip P b true nb))
       (cc (ρ_neg i v s, ρ_neg i v b) ∙ taut3 (λ z s b. xor (not z) (not s && not b)) (λ z s b. xor z (cond s true b)) tt z (r s) (r b) ∙ cc (ρ_one i v)))
-      (by-or Q s (neg a) a 0
+      (by_or Q s (neg a) a 0
       (λ e. ok_is _ _ _ (and_ok (neg s) b z (names_flip P s true ns) nb)
       (cc (ρ_neg i v s, ρ_neg i v a) ∙ taut3 (λ z a b. xor z (not (not a) && b)) (λ z a b. xor z (cond (not a) a b)) tt z (r a) (r b) ∙ cc (ρ_neg i v a)))
       (λ e. ok_is _ _ _ (and_ok (neg s) b z (names_flip P s true ns) nb)
       (cc (ρ_neg i v s) ∙ taut3 (λ z s b. xor z (not s && b)) (λ z s b. xor z (cond s false b)) tt z (r s) (r b) ∙ cc (ρ_zero i v)))
-      (by-or Q s b b 0
+      (by_or Q s b b 0
       (λ e. ok_is _ _ _ (and_ok s a z ns na) (taut3 (λ z s a. xor z (s && a)) (λ z s a. xor z (cond s a s)) tt z (r s) (r a) ∙ cc))
       (λ e. ok_is _ _ _ (and_ok s a z ns na) (taut3 (λ z s a. xor z (s && a)) (λ z s a. xor z (cond s a false)) tt z (r s) (r a) ∙ cc (ρ_zero i v)))
-      (by-or Q s (neg b) b 1
+      (by_or Q s (neg b) b 1
       (λ e. ok_is _ _ _ (and_ok s (neg a) (not z) ns (names_flip P a true na))
       (cc (ρ_neg i v a, ρ_neg i v b) ∙ taut3 (λ z a b. xor (not z) (not b && not a)) (λ z a b. xor z (cond (not b) a b)) tt z (r a) (r b) ∙ cc (ρ_neg i v b)))
       (λ e. ok_is _ _ _ (and_ok s (neg a) (not z) ns (names_flip P a true na))
       (cc (ρ_neg i v a) ∙ taut3 (λ z s a. xor (not z) (s && not a)) (λ z s a. xor z (cond s a true)) tt z (r s) (r a) ∙ cc (ρ_one i v)))
-      (by-eq Q a (neg b)
+      (by_eq Q a (neg b)
       (λ e. ok_is _ _ _ (xor_ok s b z ns nb)
       (taut3 (λ z s b. xor z (xor s b)) (λ z s b. xor z (cond s (not b) b)) tt z (r s) (r b) ∙ cc (ρ_neg i v b)))
       (λ d. record { value = refl; comb = refl; names = (ns, (na, (nb, tt))) }))))))
@@ -164,7 +164,7 @@ module _ (i v : ℕ → Bool) (P : ℕ → Type 0) where
   mux_select_ok : (s a b : ℕ) (z : Bool) → Names P s → Names P a → Names P b → Ok i v P (xor z (cond (r s) (r a) (r b))) (mux_select s a b z)
   unfolding mux_select
   mux_select_ok s a b z ns na nb =
-      by-test (Ok i v P (xor z (cond (r s) (r a) (r b)))) (is_inverted b)
+      by_test (Ok i v P (xor z (cond (r s) (r a) (r b)))) (is_inverted b)
       (λ e. ok_is _ _ _ (mux_plain_ok s (neg a) (neg b) (not z) ns (names_flip P a true na) (names_flip P b true nb))
       (cc (ρ_neg i v a, ρ_neg i v b) ∙ taut4 (λ z s a b. xor (not z) (cond s (not a) (not b))) (λ z s a b. xor z (cond s a b)) tt z (r s) (r a) (r b)))
       (λ e. mux_plain_ok s a b z ns na nb)
@@ -172,7 +172,7 @@ module _ (i v : ℕ → Bool) (P : ℕ → Type 0) where
   pub mux_ok : (s a b : ℕ) (z : Bool) → Names P s → Names P a → Names P b → Ok i v P (xor z (cond (r s) (r a) (r b))) (make_mux s a b z)
   unfolding make_mux
   mux_ok s a b z ns na nb =
-      by-test (Ok i v P (xor z (cond (r s) (r a) (r b)))) (is_inverted s)
+      by_test (Ok i v P (xor z (cond (r s) (r a) (r b)))) (is_inverted s)
       (λ e. ok_is _ _ _ (mux_select_ok (neg s) b a z (names_flip P s true ns) nb na)
       (cc (ρ_neg i v s) ∙ taut4 (λ z s a b. xor z (cond (not s) b a)) (λ z s a b. xor z (cond s a b)) tt z (r s) (r a) (r b)))
       (λ e. mux_select_ok s a b z ns na nb)
@@ -187,7 +187,7 @@ module _ (i v : ℕ → Bool) (P : ℕ → Type 0) where
   sym3 : (f : Bool → Bool → Bool → Bool) → ((a b c : Bool) → f b a c ≡ f a b c) → ((a b c : Bool) → f a c b ≡ f a b c)
       → (a b c : ℕ) → Names P a → Names P b → Names P c → Sym f (f (r a) (r b) (r c)) (low3 a b c) (mid3 a b c) (high3 a b c)
   sym3 f f12 f23 a b c na nb nc =
-      sort3-ok (Sym f (f (r a) (r b) (r c)))
+      sort3_ok (Sym f (f (r a) (r b) (r c)))
       (λ x y w s. record { is = f12 (r x) (r y) (r w) ∙ s.is; nx = s.ny; ny = s.nx; nw = s.nw })
       (λ x y w s. record { is = f23 (r x) (r y) (r w) ∙ s.is; nx = s.nx; ny = s.nw; nw = s.ny })
       a b c (record { is = refl; nx = na; ny = nb; nw = nc })
@@ -204,14 +204,14 @@ module _ (i v : ℕ → Bool) (P : ℕ → Type 0) where
   and3_sorted_ok : (x y w : ℕ) (z : Bool) → Names P x → Names P y → Names P w → Ok i v P (xor z (and3 (r x) (r y) (r w))) (and3_sorted x y w z)
   unfolding gate_value value_of kind_of and3_sorted made3
   and3_sorted_ok x y w z nx ny nw =
-      by-or3 Q x 0 x (neg y) w (neg y)
+      by_or3 Q x 0 x (neg y) w (neg y)
       (λ e. bool_ok z _ (taut3 (λ z y w. z) (λ z y w. xor z (and3 false y w)) tt z (r y) (r w) ∙ cc (ρ_zero i v)))
       (λ e. bool_ok z _ (taut3 (λ z y w. z) (λ z y w. xor z (and3 (not y) y w)) tt z (r y) (r w) ∙ cc (ρ_neg i v y)))
       (λ e. bool_ok z _ (taut3 (λ z y x. z) (λ z y x. xor z (and3 x y (not y))) tt z (r y) (r x) ∙ cc (ρ_neg i v y)))
-      (λ d d2 d3. by-or Q x 1 x y
+      (λ d d2 d3. by_or Q x 1 x y
       (λ e. ok_is _ _ _ (and_ok y w z ny nw) (cc (ρ_one i v)))
       (λ e. ok_is _ _ _ (and_ok y w z ny nw) (taut3 (λ z y w. xor z (y && w)) (λ z y w. xor z (and3 y y w)) tt z (r y) (r w) ∙ cc))
-      (by-eq Q y w
+      (by_eq Q y w
       (λ e. ok_is _ _ _ (and_ok x y z nx ny) (taut3 (λ z x y. xor z (x && y)) (λ z x y. xor z (and3 x y y)) tt z (r x) (r y) ∙ cc))
       (λ d'. record { value = taut4 (λ z x y w. xor z (x && (y && (w && true)))) (λ z x y w. xor z (and3 x y w)) tt z (r x) (r y) (r w); comb = refl; names = (nx, (ny, (nw, tt))) })))
     where
@@ -227,11 +227,11 @@ module _ (i v : ℕ → Bool) (P : ℕ → Type 0) where
   xor3_sorted_ok : (x y w : ℕ) (z : Bool) → Names P x → Names P y → Names P w → Ok i v P (xor z (xor3 (r x) (r y) (r w))) (xor3_sorted x y w z)
   unfolding gate_value value_of kind_of xor3_sorted made3
   xor3_sorted_ok x y w z nx ny nw =
-      by-eq Q x 0
+      by_eq Q x 0
       (λ e. ok_is _ _ _ (xor_ok y w z ny nw) (cc (ρ_zero i v)))
-      (λ d. by-eq Q x y
+      (λ d. by_eq Q x y
       (λ e. copy_ok (flip w z) _ (value_flip i v w z ∙ taut3 (λ z y w. xor z w) (λ z y w. xor z (xor3 y y w)) tt z (r y) (r w) ∙ cc) (names_flip P w z nw))
-      (λ d'. by-eq Q y w
+      (λ d'. by_eq Q y w
       (λ e. copy_ok (flip x z) _ (value_flip i v x z ∙ taut3 (λ z x w. xor z x) (λ z x w. xor z (xor3 x w w)) tt z (r x) (r w) ∙ cc) (names_flip P x z nx))
       (λ d''. record { value = taut4 (λ z x y w. xor z (xor x (xor y (xor w false)))) (λ z x y w. xor z (xor3 x y w)) tt z (r x) (r y) (r w); comb = refl; names = (nx, (ny, (nw, tt))) })))
     where
@@ -253,20 +253,20 @@ module _ (i v : ℕ → Bool) (P : ℕ → Type 0) where
   maj_plain_ok : (x y w : ℕ) (z : Bool) → Names P x → Names P y → Names P w → Ok i v P (xor z (maj3 (r x) (r y) (r w))) (maj_plain x y w z)
   unfolding gate_value value_of kind_of maj_plain made3
   maj_plain_ok x y w z nx ny nw =
-      by-eq (Ok i v P (xor z (maj3 (r x) (r y) (r w)))) x 0
+      by_eq (Ok i v P (xor z (maj3 (r x) (r y) (r w)))) x 0
       (λ q. ok_is _ _ _ (and_ok y w z ny nw) (taut3 (λ z y w. xor z (y && w)) (λ z y w. xor z (maj3 false y w)) tt z (r y) (r w) ∙ cc (ρ_zero i v)))
       (λ d. record { value = refl; comb = refl; names = (nx, (ny, (nw, tt))) })
 
   maj_sorted_ok : (x y w : ℕ) (z : Bool) → Names P x → Names P y → Names P w → Ok i v P (xor z (maj3 (r x) (r y) (r w))) (maj_sorted x y w z)
   unfolding maj_sorted
   maj_sorted_ok x y w z nx ny nw =
-      by-or Q x (neg y) y w
+      by_or Q x (neg y) y w
       (λ e. copy_ok (flip w z) _ (value_flip i v w z ∙ taut3 (λ z y w. xor z w) (λ z y w. xor z (maj3 (not y) y w)) tt z (r y) (r w) ∙ cc (ρ_neg i v y)) (names_flip P w z nw))
       (λ e. copy_ok (flip w z) _ (value_flip i v w z ∙ taut3 (λ z x w. xor z w) (λ z x w. xor z (maj3 x w w)) tt z (r x) (r w) ∙ cc) (names_flip P w z nw))
-      (by-or Q y (neg w) x y
+      (by_or Q y (neg w) x y
       (λ e. copy_ok (flip x z) _ (value_flip i v x z ∙ taut3 (λ z x w. xor z x) (λ z x w. xor z (maj3 x (not w) w)) tt z (r x) (r w) ∙ cc (ρ_neg i v w)) (names_flip P x z nx))
       (λ e. copy_ok (flip x z) _ (value_flip i v x z ∙ taut3 (λ z x w. xor z x) (λ z x w. xor z (maj3 x x w)) tt z (r x) (r w) ∙ cc) (names_flip P x z nx))
-      (by-test Q (is_inverted x)
+      (by_test Q (is_inverted x)
       (λ e. ok_is _ _ _ (maj_plain_ok (neg x) (neg y) (neg w) (not z) (names_flip P x true nx) (names_flip P y true ny) (names_flip P w true nw))
       (cc (ρ_neg i v x, ρ_neg i v y, ρ_neg i v w) ∙ taut4 (λ z x y w. xor (not z) (maj3 (not x) (not y) (not w))) (λ z x y w. xor z (maj3 x y w)) tt z (r x) (r y) (r w)))
       (λ e. maj_plain_ok x y w z nx ny nw)))

@@ -18,7 +18,7 @@ use Rattle.model.specs.Signal.{Ref, is_inverted, ref, rinput, rnode, rzero}
 use Rattle.model.proofs.Names.{In, Names}
 use Rattle.tables.specs.Building.{Packed}
 use Rattle.tables.specs.Layout.{count_at, first_at, gate_at, input_at, ins_at}
-use Rattle.laws.proofs.Lists.{all-at}
+use Rattle.laws.proofs.Lists.{all_at}
 use Rattle.shape.proofs.Flatten.{merge_grows}
 use Rattle.shape.proofs.Wires.{names_below}
 use Rattle.tables.proofs.Holding.{get_or_ins_at, length_ins_at}
@@ -87,7 +87,7 @@ module _ (f : Family) (from l₀ : List ℕ) (v limit start : ℕ) (M : Merges f
           signal_is = get_or_ins_at from v j (omega arith) ∙ ap (λ x. input_at from (x + j)) (sym ef) ∙ sym es
 
           below : Names (λ w. w < v) s
-          below = let a = length_ins_at from v in rw signal_is at (all-at (Names (λ w. w < v)) (ins_at from v) 0 M.below j (omega arith))
+          below = let a = length_ins_at from v in rw signal_is at (all_at (Names (λ w. w < v)) (ins_at from v) 0 M.below j (omega arith))
 
           pub gather_becoming : (used : ℕ) → used ≤ 4096 → Becoming l v s used at
           gather_becoming used few = record {

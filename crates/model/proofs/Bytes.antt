@@ -32,14 +32,14 @@ length_bytes (w ∷ ws) = omega (arith, length_bytes ws)
 four_suc : (i : ℕ) → 4 * suc i ≡ suc (suc (suc (suc (4 * i))))
 four_suc i = omega arith
 
-pub get_d_words : (b : List ℕ) (i : ℕ) → i < length b / 4 → get_or (words b) i 0 ≡ word_at b (4 * i)
+pub get_or_words : (b : List ℕ) (i : ℕ) → i < length b / 4 → get_or (words b) i 0 ≡ word_at b (4 * i)
 unfolding words word_at
-get_d_words [] i h = absurd (omega arith)
-get_d_words (a ∷ []) i h = absurd (omega arith)
-get_d_words (a ∷ b ∷ []) i h = absurd (omega arith)
-get_d_words (a ∷ b ∷ c ∷ []) i h = absurd (omega arith)
-get_d_words (a ∷ b ∷ c ∷ d ∷ r) zero h = refl
-get_d_words (a ∷ b ∷ c ∷ d ∷ r) (suc i) h = get_d_words r i (omega arith) ∙ simp (four_suc, suc-add)
+get_or_words [] i h = absurd (omega arith)
+get_or_words (a ∷ []) i h = absurd (omega arith)
+get_or_words (a ∷ b ∷ []) i h = absurd (omega arith)
+get_or_words (a ∷ b ∷ c ∷ []) i h = absurd (omega arith)
+get_or_words (a ∷ b ∷ c ∷ d ∷ r) zero h = refl
+get_or_words (a ∷ b ∷ c ∷ d ∷ r) (suc i) h = get_or_words r i (omega arith) ∙ simp (four_suc, suc-add)
 
 low : (a q : ℕ) → a < 256 → (a + q * 256) % 256 ≡ a
 low a q h = omega arith

@@ -11,11 +11,11 @@ use lib.Dec.{eqb, leb}
 use borrow.Author.Tests.{eq-eqb, ne_eqb, le-leb}
 use Rattle.laws.specs.Lists.{All}
 use Rattle.laws.proofs.Lists.{all_map}
-use Rattle.laws.proofs.Choices.{by-eq, by_le, by-test}
+use Rattle.laws.proofs.Choices.{by_eq, by_le, by_test}
 use Rattle.model.specs.Normal.{keep, without, insert, sorted, uniq, cancel}
 
-pub by-keep {ℓ} : (P : List ℕ → Type ℓ) (x y v : ℕ) (l : List ℕ) → (x ≡ y → P l) → (x ≢ y → P (v ∷ l)) → P (keep (eqb x y) v l)
-by-keep P x y v l f g = elim (ℕ_discrete x y) [
+pub by_keep {ℓ} : (P : List ℕ → Type ℓ) (x y v : ℕ) (l : List ℕ) → (x ≡ y → P l) → (x ≢ y → P (v ∷ l)) → P (keep (eqb x y) v l)
+by_keep P x y v l f g = elim (ℕ_discrete x y) [
   | yes e ↦ subst (λ c. P (keep c v l)) (sym (eq-eqb x y e)) (f e)
   | no e ↦ subst (λ c. P (keep c v l)) (sym (ne_eqb x y e)) (g e)
 ]
@@ -25,7 +25,7 @@ by-keep P x y v l f g = elim (ℕ_discrete x y) [
 pub insert_all {ℓ} : (Q : ℕ → Type ℓ) (x : ℕ) (l : List ℕ) → Q x → All Q l → All Q (insert x l)
 unfolding insert
 insert_all Q x [] q h = (q, tt)
-insert_all Q x (y ∷ l) q h = by-test (All Q) (leb x y) (λ e. (q, h)) (λ e. (h.0, insert_all Q x l q h.1))
+insert_all Q x (y ∷ l) q h = by_test (All Q) (leb x y) (λ e. (q, h)) (λ e. (h.0, insert_all Q x l q h.1))
 
 pub sorted_all {ℓ} : (Q : ℕ → Type ℓ) (l : List ℕ) → All Q l → All Q (sorted l)
 unfolding sorted
@@ -41,22 +41,22 @@ unfolding without
 without_all P x [] h = tt
 without_all P x (y ∷ l) h = keep_all P (eqb y x) y (without x l) h.0 (without_all P x l h.1)
 
-pub uniq-all {ℓ} : (Q : ℕ → Type ℓ) (l : List ℕ) → All Q l → All Q (uniq l)
+pub uniq_all {ℓ} : (Q : ℕ → Type ℓ) (l : List ℕ) → All Q l → All Q (uniq l)
 unfolding uniq
-uniq-all Q [] h = tt
-uniq-all Q (x ∷ []) h = h
-uniq-all Q (x ∷ y ∷ l) h = keep_all Q (eqb x y) x (uniq (y ∷ l)) h.0 (uniq-all Q (y ∷ l) h.1)
+uniq_all Q [] h = tt
+uniq_all Q (x ∷ []) h = h
+uniq_all Q (x ∷ y ∷ l) h = keep_all Q (eqb x y) x (uniq (y ∷ l)) h.0 (uniq_all Q (y ∷ l) h.1)
 
-pub cancel-all {ℓ} : (Q : ℕ → Type ℓ) (l : List ℕ) → All Q l → All Q (cancel l)
+pub cancel_all {ℓ} : (Q : ℕ → Type ℓ) (l : List ℕ) → All Q l → All Q (cancel l)
 unfolding cancel
-cancel-all Q [] h = tt
-cancel-all Q (x ∷ []) h = h
-cancel-all Q (x ∷ y ∷ l) h = by-test (All Q) (eqb x y) (λ e. cancel-all Q l h.1.1) (λ e. (h.0, cancel-all Q (y ∷ l) h.1))
+cancel_all Q [] h = tt
+cancel_all Q (x ∷ []) h = h
+cancel_all Q (x ∷ y ∷ l) h = by_test (All Q) (eqb x y) (λ e. cancel_all Q l h.1.1) (λ e. (h.0, cancel_all Q (y ∷ l) h.1))
 
 pub without_other : (x : ℕ) (l : List ℕ) → All (λ s. s ≢ x) (without x l)
 unfolding without
 without_other x [] = tt
-without_other x (y ∷ l) = by-keep (All (λ s. s ≢ x)) y x y (without x l) (λ e. without_other x l) (λ e. (e, without_other x l))
+without_other x (y ∷ l) = by_keep (All (λ s. s ≢ x)) y x y (without x l) (λ e. without_other x l) (λ e. (e, without_other x l))
 
 -- ---- in order
 
@@ -86,16 +86,16 @@ unfolding uniq
 uniq_up [] h = tt
 uniq_up (x ∷ []) h = (tt, tt)
 uniq_up (x ∷ y ∷ l) h =
-    by-keep Up x y x (uniq (y ∷ l)) (λ e. uniq_up (y ∷ l) h.1)
-    (λ e. (uniq-all (λ z. x < z) (y ∷ l) ((let k = h.0.0 in omega arith), all_map l (λ z k. let k' = h.0.0 in omega arith) h.1.0), uniq_up (y ∷ l) h.1))
+    by_keep Up x y x (uniq (y ∷ l)) (λ e. uniq_up (y ∷ l) h.1)
+    (λ e. (uniq_all (λ z. x < z) (y ∷ l) ((let k = h.0.0 in omega arith), all_map l (λ z k. let k' = h.0.0 in omega arith) h.1.0), uniq_up (y ∷ l) h.1))
 
 pub cancel_up : (l : List ℕ) → Asc l → Up (cancel l)
 unfolding cancel
 cancel_up [] h = tt
 cancel_up (x ∷ []) h = (tt, tt)
 cancel_up (x ∷ y ∷ l) h =
-    by-eq Up x y (λ e. cancel_up l h.1.1)
-    (λ e. (cancel-all (λ z. x < z) (y ∷ l) ((let k = h.0.0 in omega arith), all_map l (λ z k. let k' = h.0.0 in omega arith) h.1.0), cancel_up (y ∷ l) h.1))
+    by_eq Up x y (λ e. cancel_up l h.1.1)
+    (λ e. (cancel_all (λ z. x < z) (y ∷ l) ((let k = h.0.0 in omega arith), all_map l (λ z k. let k' = h.0.0 in omega arith) h.1.0), cancel_up (y ∷ l) h.1))
 
 -- ---- what stays as it is
 

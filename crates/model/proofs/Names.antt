@@ -1,5 +1,5 @@
 -- What the signals of a list name: nodes of a set, by `Names` and `In`; what follows for values, for translations, and from the
--- tests of the model (`allNamed`, `all_below`, `isTopoSorted`).
+-- tests of the model (`all_named`, `all_below`, `is_topo_sorted`).
 use mathlib.Core.Path.{◌≡◌, refl, sym, ap, ap₂, ◌∙◌}
 use Prim.Native.Nat.{ℕ, zero, suc, ◌+◌, ◌<◌}
 use native.Mathlib.Nat.{not-suc-le-zero, le_of_suc-le-suc}
@@ -12,7 +12,7 @@ use borrow.Author.Tests.{ltb-true, lt-ltb}
 use Rattle.laws.specs.Bools.{xor}
 use Rattle.laws.specs.Lists.{All}
 use Rattle.laws.proofs.Bools.{and_left, and_right}
-use Rattle.laws.proofs.Lists.{map-all}
+use Rattle.laws.proofs.Lists.{map_all}
 use Rattle.model.specs.Signal.{Ref, rzero, rnode, rinput, is_inverted, ref, remap_order, remap_ref}
 use Rattle.model.specs.Gate.{Gate, Net, is_dff, no_gate, gate_at, size, named_ref, named, all_named, gates_named, wired, below_ref, all_below, sorted_from, is_topo_sorted}
 use Rattle.model.specs.Evaluate.{ref_value, signal_value}
@@ -47,7 +47,7 @@ names_remap τ P Q s h p = go (ref s) refl
     go (rinput k) e m f = input_names e f
 
 pub in_remap : (τ : ℕ → ℕ) (P Q : ℕ → Type 0) (l : List ℕ) → ((m : ℕ) → P m → Names Q (τ m)) → In P l → In Q (map (remap_order τ) l)
-in_remap τ P Q l h = map-all (Names Q) (remap_order τ) l (λ s. names_remap τ P Q s h)
+in_remap τ P Q l h = map_all (Names Q) (remap_order τ) l (λ s. names_remap τ P Q s h)
 
 -- ---- a value depends on what the signal names
 

@@ -1,4 +1,4 @@
--- The second half of `muxPlain`, which a function of its own decides.
+-- The second half of `mux_plain`, which a function of its own decides.
 use Rattle.std.specs.Prelude.{ℕ, Bool, not, cond, ◌||◌, eqb}
 use Rattle.kinds.specs.declared.Kind.TheVariants.{Mux}
 use Rattle.model.specs.Signal.{neg}

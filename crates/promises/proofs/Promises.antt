@@ -3,14 +3,14 @@
 -- `(x : A) → P` says: for every x of A, P. `P → Q`: if P, then Q. `P × Q`: P and Q. `P ↔ Q`: P exactly when Q. `a ≡ b`: a is b.
 -- What a line `module _ ..` supposes is supposed in all that is set in below it. A line that begins with the name of the statement above
 -- it is that statement's proof. The words are defined in crates/model/specs; the main ones:
---   net_of img, image_of N     the network that an image holds; the image of a network
---   Valid, is_topo_sorted      what an image's network is when the numbers 2 to 6, and 7, are not met
---   run_from_zero N is         the outputs of every cycle, the flip-flops starting at zero; `is` has the inputs of each cycle, as many
+--   net_of img, image_of N   the network that an image holds; the image of a network
+--   Valid, is_topo_sorted    what an image's network is when the numbers 2 to 6, and 7, are not met
+--   run_from_zero N is       the outputs of every cycle, the flip-flops starting at zero; `is` has the inputs of each cycle, as many
 --                            cycles as one likes. `run N st is` starts from the states st
 --   Kept, Kept2              the contract of every entry: its answer r, and the slices at exit (primed) from those at entry
 -- and in crates/meaning/proofs/PromisedMappings:
---   signal_in N st is i s     the value of signal s in the cycle with inputs i, after cycles with inputs `is` from the states st
---   node_in N st is i n       the value of node n in that cycle
+--   signal_in N st is i s    the value of signal s in the cycle with inputs i, after cycles with inputs `is` from the states st
+--   node_in N st is i n      the value of node n in that cycle
 use mathlib.Core.Path.{◌≡◌, ◌∙◌}
 use mathlib.Core.Logic.Iff
 use mathlib.Core.Logic.{◌↔◌, ◌≢◌}
@@ -48,6 +48,7 @@ use Rattle.shape.proofs.RoundTrips.{read_written, written_read}
 use Rattle.shape.proofs.Sort.{sort_combs}
 use Rattle.shape.proofs.Valids.{valid_net}
 use Rattle.meaning.proofs.Accepted.{kept_found, unless_twice}
+use Rattle.promises.proofs.Answering.{told}
 use Rattle.promises.proofs.Calls.{Good, calls_run, given}
 use Rattle.promises.proofs.Cases.{Cases, cases}
 use Rattle.meaning.proofs.CleanupRuns.{cleanup_probe, cleanup_runs_from}
@@ -102,21 +103,16 @@ pub record Answers (img out a b : List ℕ) (k : ℕ) (image : List ℕ) (r : An
 
 answers : (img out a b : List ℕ) (k : ℕ) (image : List ℕ) (r : Answer) → r ≡ answer_of (in_areas a b (in_room (length out) 0 (unless (sorted_refusal_of img) (unless k (written image [])))))
     → Answers img out a b k image r
-unfolding in_areas unless
-answers img out a b k image r e = record {
-  on_1 = λ short. e ∙ rw short;
-  on_2_to_7 = λ long bad. e ∙ rw (long, ne_eqb (sorted_refusal_of img) 0 bad);
-  on_9_to_12 = λ long sound met. e ∙ rw (long, sound, ne_eqb k 0 met);
-  on_13 = λ long sound none less. e ∙ rw (long, sound, none, lt-leb (length image) (length out) less);
-  on_0 = λ long sound none room. e ∙ rw (long, sound, none, le-leb (length image) (length out) room);
-}
+answers img out a b k image r e =
+    let t = told img out a b k image r e in
+    record { on_1 = t.0; on_2_to_7 = t.1; on_9_to_12 = t.2; on_13 = t.3; on_0 = t.4 }
 
 -- Share was called with img, out, a, b and a limit, and answered r:
 module _ (img out a b : List ℕ) (limit : ℕ) (r : Answer) (out' a' b' : List ℕ) (call : Kept (share_outcome img out a b limit) out a b r out' a' b') where
   -- 10 where gate inputs pass 2,048, else 11 or 12 as factoring the flattened network meets them;
   pub share_answers : Answers img out a b (cond (ltb 2048 (flattened_inputs (net_of img) limit)) 10 (factor_refusal (flatten_nary (net_of img) limit))) (image_of (share_logic (net_of img) limit)) r
   unfolding share_outcome
-  share_answers = answers img out a b _ _ r (call.answer ∙ rw (unless_twice (ltb 2048 (flattened_inputs (net_of img) limit)) 9))
+  share_answers = let t = told img out a b _ _ r (call.answer ∙ rw (unless_twice (ltb 2048 (flattened_inputs (net_of img) limit)) 9)) in record { on_1 = t.0; on_2_to_7 = t.1; on_9_to_12 = t.2; on_13 = t.3; on_0 = t.4 }
 
   -- Where it accepted with length n, the image that it wrote is the first n bytes of out:
   module _ (n : ℕ) (accepts : r ≡ Accepted n) where
@@ -137,29 +133,29 @@ module _ (img out a b : List ℕ) (limit : ℕ) (r : Answer) (out' a' b' : List 
 
     -- running it is running the image that was taken: the same outputs in every cycle;
     pub share_image_same_outputs : (is : List (List Bool)) → run_from_zero (net_of img) is ≡ run_from_zero (net_of (take n out')) is
-    share_image_same_outputs is = let w = wrote in rw w.net (share_same_outputs (net_of img) w.valid w.sorted limit w.pass.0 w.pass.1 is)
+    share_image_same_outputs is = let w = wrote in rw w.net (share_runs (net_of img) limit w.valid w.sorted w.pass.0 w.pass.1 is)
 
     -- its gates are simple, its Ands and Xors have two inputs, and they are no more than the flattened network of img weighs.
     pub share_image_simple_gates : All (λ (g : Gate). is_simple (kind_of g.kind) ≡ true) (net_of (take n out')).nodes
     share_image_simple_gates = let w = wrote in rw w.net (share_simple_gates (net_of img) w.valid w.sorted limit w.pass.0 w.pass.1)
 
     pub share_image_two_inputs : (f : Family) → All (λ (g : Gate). inside f g ≡ true → length g.ins ≡ 2) (net_of (take n out')).nodes
-    share_image_two_inputs f = let w = wrote in rw w.net (share_two_inputs (net_of img) w.valid w.sorted limit w.pass.0 w.pass.1 f)
+    share_image_two_inputs f = let w = wrote in rw w.net (share_two (net_of img) limit w.valid w.sorted w.pass.0 w.pass.1 f)
 
     pub share_image_gate_bound : combs (net_of (take n out')).nodes ≤ weights (flatten_nary (net_of img) limit).nodes
-    share_image_gate_bound = let w = wrote in rw w.net (share_gate_bound (net_of img) w.valid w.sorted limit w.pass.0 w.pass.1)
+    share_image_gate_bound = let w = wrote in rw w.net (share_bound (net_of img) limit w.valid w.sorted w.pass.0 w.pass.1)
 
 -- Flatten or factor was called, and answered r; where it accepted with length n its image is accepted, and has the same outputs in every cycle.
 module _ (img out a b : List ℕ) (r : Answer) (out' a' b' : List ℕ) where
   pub flatten_answers : (limit : ℕ) → Kept (flatten_outcome img out a b limit) out a b r out' a' b'
       → Answers img out a b (cond (ltb 2048 (flattened_inputs (net_of img) limit)) 10 0) (image_of (flatten_nary (net_of img) limit)) r
   unfolding flatten_outcome
-  flatten_answers limit call = answers img out a b _ _ r call.answer
+  flatten_answers limit call = let t = told img out a b _ _ r call.answer in record { on_1 = t.0; on_2_to_7 = t.1; on_9_to_12 = t.2; on_13 = t.3; on_0 = t.4 }
 
   pub factor_answers : Kept (factor_outcome img out a b) out a b r out' a' b'
       → Answers img out a b (cond (any_repeats (net_of img).nodes) 9 (factor_refusal (net_of img))) (image_of (factor_nary (net_of img))) r
   unfolding factor_outcome
-  factor_answers call = answers img out a b _ _ r (call.answer ∙ rw (unless_twice (any_repeats (net_of img).nodes) 8))
+  factor_answers call = let t = told img out a b _ _ r (call.answer ∙ rw (unless_twice (any_repeats (net_of img).nodes) 8)) in record { on_1 = t.0; on_2_to_7 = t.1; on_9_to_12 = t.2; on_13 = t.3; on_0 = t.4 }
 
 module _ (img out a b : List ℕ) (r : Answer) (out' a' b' : List ℕ) (n : ℕ) (accepts : r ≡ Accepted n) where
   module _ (limit : ℕ) (call : Kept (flatten_outcome img out a b limit) out a b r out' a' b') where
@@ -265,7 +261,7 @@ module _ (img out map a b : List ℕ) (r : Answer) (out' map' a' b' : List ℕ) 
 pub sort_answers_8 : (img out map a b : List ℕ) (r : Answer) (out' map' a' b' : List ℕ) → Kept2 (sort_outcome img out map a b) out map a b r out' map' a' b'
     → areas_short a b ≡ false → refusal_of img ≡ 0 → (r ≡ Refused 8) ↔ Cycle (net_of img)
 sort_answers_8 img out map a b r out' map' a' b' call long sound =
-    rw call.first.answer (Iff.trans (sort_8 img out map a b long sound) (sort_fails (net_of img) (valid_net img sound)))
+    rw call.first.answer (Iff.trans (sort_8 img out map a b long sound) (unsorted_cycle (net_of img) (valid_net img sound).signals, cycle_unsorted (net_of img) (valid_net img sound).signals))
 
 -- ---- 4. Images and calls
 
@@ -288,7 +284,7 @@ pub read_image : (img out a b : List ℕ) (r : Answer) (out' a' b' : List ℕ) �
     → Bytes img → take n out' ≡ body_of img
 read_image img out a b r out' a' b' call n accepts bytes =
     let f = kept_found _ _ [] _ (read_writes img out a b) out a b r out' a' b' call n accepts in
-    f.there ∙ writing_what_was_read img bytes f.held.source
+    f.there ∙ (written_read img bytes f.held.source).same
 
 -- Evaluate called once for each of the input vectors xs, each time with the states that the call before left: as long as the calls accept,
 -- the bytes that they write are those of a run of the image's network from the first states.

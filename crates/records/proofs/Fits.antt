@@ -117,7 +117,7 @@ lut_count_is : (h : ℕ) → header_ok h ≡ true → h % 256 ≡ 14 → h / 256
 unfolding header_ok
 lut_count_is h e q = lut_small (h % 256) (h / 256) (and_right (ltb h 16777216) (fits_code (h % 256) (h / 256)) e) q
 
--- ---- `fitAt`
+-- ---- `fit_at`
 
 fit_no : (ws : List ℕ) (at lim : ℕ) → sound_at ws at ≡ false → 0 ≡ fit_at ws at lim
 unfolding fit_at

@@ -4,7 +4,7 @@ use mathlib.Core.Path.{◌≡◌, refl, sym, ap, ap₂, fun_ext, ◌∙◌}
 use mathlib.Core.List.{List, [], ◌∷◌, ◌++◌, map}
 use native.Mathlib.Omega.{arith}
 use Rattle.laws.specs.Lists.{All, tab}
-use Rattle.laws.proofs.Lists.{all-at, all_of}
+use Rattle.laws.proofs.Lists.{all_at, all_of}
 use Rattle.laws.proofs.Tabs.{tab_ext, length_tab, get_or_tab, map_tab}
 use Rattle.model.specs.Signal.{remap_order}
 use Rattle.model.specs.Gate.{remap_gate, size}
@@ -47,7 +47,7 @@ module _ (from l : List ℕ) (c : Counts) (m : ℕ) (O : Orders from l c m) wher
   order_at : (k : ℕ) → k < m → cell l order_base k < c.nodes
   order_at k h =
       let b : All (λ o. o < size (network_of from c)) (tab (cell l order_base) m) = rw (order_from_tab l m) at O.order.bound in
-      let at-k = all-at (λ o. o < size (network_of from c)) (tab (cell l order_base) m) 0 b k (omega (arith, length_tab (cell l order_base) m)) in
+      let at-k = all_at (λ o. o < size (network_of from c)) (tab (cell l order_base) m) 0 b k (omega (arith, length_tab (cell l order_base) m)) in
       omega (arith, at-k, get_or_tab (cell l order_base) m k 0 h, size_network from c)
 
   few : m ≤ 512

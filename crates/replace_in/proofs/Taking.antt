@@ -15,7 +15,7 @@ use Rattle.laws.specs.Lists.{tab}
 use Rattle.model.specs.Sharing.{holds, take_out}
 use Rattle.pairs.specs.Lists.{Laid, front, left_at, list_at, put_left, put_list, put_sig, set_list, sig_at, start_at}
 use Rattle.replace_in.specs.Words.{kept_one, replaced_in}
-use Rattle.laws.proofs.Bools.{and_left, or_true}
+use Rattle.laws.proofs.Bools.{and_left, or-true}
 use Rattle.laws.proofs.Choices.{by_bool}
 use Rattle.pairs.proofs.Gates.{front_suc, length_front}
 use Rattle.pairs.proofs.Places.{put_list_append, sig_at_put_list_after}
@@ -41,11 +41,11 @@ module _ (l : List ℕ) (k s a b : ℕ) where
 
   pub one_b : s ≡ b → 0 ≡ length (kept_one a b s)
   unfolding kept_one take_out
-  one_b e = rw (eq-eqb s b e, or_true)
+  one_b e = rw (eq-eqb s b e, or-true)
 
   pub one_b' : s ≡ b → l ≡ put_list l k (kept_one a b s)
   unfolding kept_one take_out put_list
-  one_b' e = rw (eq-eqb s b e, or_true)
+  one_b' e = rw (eq-eqb s b e, or-true)
 
   pub one_s : s ≢ a → s ≢ b → 1 ≡ length (kept_one a b s)
   unfolding kept_one take_out

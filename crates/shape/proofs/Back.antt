@@ -10,7 +10,7 @@ use lib.ListN.{length, get_or, take, drop, length-drop, take-append-drop, drop_o
 use lib.Seq.{drop-drop, drop-cons, take-add, length-take-le}
 use Rattle.model.specs.Gate.{is_lut}
 use Rattle.model.specs.Image.{Bytes, Words32, words, bytes, word_at, code_at, count_at, size_at, table_at, record_gate, gates_from, end_from, nodes_in, outs_in, span_in, body_of, words_of, net_in, net_of, refusal_of, table_words, gate_words, gates_words, body_words, net_words, image_of}
-use Rattle.model.proofs.Bytes.{bytes_words, length_words, get_d_words, word_at_drop, words_small, bytes_drop}
+use Rattle.model.proofs.Bytes.{bytes_words, length_words, get_or_words, word_at_drop, words_small, bytes_drop}
 use Rattle.shape.proofs.Walks.{ins_length, end_le, length_gates}
 use Rattle.shape.proofs.Accepted.{Framed, Accepted, accepted}
 
@@ -104,7 +104,7 @@ module _ (img : List ℕ) (f : Framed img) where
       → get_or (words_of img) i 0 ≡ word_at img (length img - j)
   unfolding words_of body_of
   word_in i j l e =
-      get_d_words (body_of img) i (rw (← length_words) l)
+      get_or_words (body_of img) i (rw (← length_words) l)
       ∙ word_at_drop (length img - span_in img) img (4 * i)
       ∙ ap (λ (n : ℕ). word_at img n) e
 

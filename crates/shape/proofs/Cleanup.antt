@@ -9,7 +9,7 @@ use mathlib.Core.Bool.{true, false}
 use mathlib.Core.List.{List, [], ◌∷◌}
 use lib.ListN.{length, get_or, length-append}
 use Rattle.laws.specs.Lists.{All}
-use Rattle.laws.proofs.Lists.{all_map, all-at, all_append, all_both, length_none}
+use Rattle.laws.proofs.Lists.{all_map, all_at, all_append, all_both, length_none}
 use Rattle.laws.proofs.Choices.{by_bool, clash}
 use Rattle.model.specs.Gate.{Net, gate_at, size, fanin, combs, wired, is_topo_sorted, Valid}
 use Rattle.model.specs.Network.{vars, deps, has, Reach, out, through, Walk, go_at, step_at, walk, first_walk, walk_left, seen, cleanup_order, cleanup, translation}
@@ -136,7 +136,7 @@ module _ (N : Net) where
     keep_at n h = has_index n (cleanup_order N) (rising_has (seen N) (size N) n (seen_sound n h).1 h)
 
     kept_seen : (n : ℕ) → Kept (cleanup_order N) n → seen N n ≡ true
-    kept_seen n k = rw k.2 at (all-at (λ x. (seen N x ≡ true) × (x < size N)) (cleanup_order N) 0 (rising_all (seen N) (size N)) k.0 k.1).0
+    kept_seen n k = rw k.2 at (all_at (λ x. (seen N x ≡ true) × (x < size N)) (cleanup_order N) 0 (rising_all (seen N) (size N)) k.0 k.1).0
 
     order_order : Order N (cleanup_order N)
     order_order = record {
@@ -171,7 +171,7 @@ module _ (N : Net) (w : wired N ≡ true) where
   pub cleanup_topo : is_topo_sorted N ≡ true → Topo N (cleanup_order N)
   cleanup_topo t j h e =
       let o = get_or (cleanup_order N) j 0 in
-      let ho : o < size N = all-at (λ o. o < size N) (cleanup_order N) 0 cleanup_order_lem.bound j h in
+      let ho : o < size N = all_at (λ o. o < size N) (cleanup_order N) 0 cleanup_order_lem.bound j h in
       all_map (gate_at N o).ins
       (λ s p m r.
       let k = p.1 m r in

@@ -12,14 +12,14 @@ use Rattle.kinds.specs.declared.Kind.{Kind}
 use Rattle.kinds.specs.declared.Kind.TheVariants.{And2, Xor2, And3, Xor3, Maj, Mux, AndN, OrN, NandN, NorN, XorN, XnorN, Buf, Dff, Lut}
 use Rattle.laws.specs.Bools.{xor}
 use Rattle.laws.specs.Lists.{All}
-use Rattle.laws.proofs.Choices.{by_bool, by-eq, by-or2, by-or3, by-test}
-use Rattle.laws.proofs.Lists.{all-each, map-all}
+use Rattle.laws.proofs.Choices.{by_bool, by_eq, by_or2, by_or3, by_test}
+use Rattle.laws.proofs.Lists.{all_each, map_all}
 use Rattle.model.specs.Signal.{is_inverted, word_of, flip, neg, without_inversion, from_bool}
 use Rattle.model.specs.Gate.{Gate, is_lut, is_dff, fits_code, fits_table, shaped}
 use Rattle.model.specs.Normal.{Norm, copied, made, gate_of, made2, made3, least, most, low3, mid3, high3, and_sorted, make_and, xor_sorted, make_xor, and3_sorted, make_and3, xor3_sorted, make_xor3, mux_plain, mux_select, make_mux, maj_plain, maj_sorted, make_maj, make_dff, keep, without, insert, sorted, uniq, opposed, and_some, and_wide, and_tidy, make_and_n, cancel, xor_some, make_xor_n, on1, on2, on3, normal_k, make_canonical}
 use Rattle.model.specs.Network.{as_is}
 use Rattle.model.proofs.Words.{flip_false, one_is}
-use Rattle.model.proofs.Lists.{sorted_all, without_all, uniq-all, cancel-all}
+use Rattle.model.proofs.Lists.{sorted_all, without_all, uniq_all, cancel_all}
 use Rattle.shape.proofs.Shaped.{dff_kind, table_none}
 
 -- a set of signals that has zero, and each signal with its inverse
@@ -62,7 +62,7 @@ insert_short : (x : ℕ) (l : List ℕ) → Short (suc (length l)) (insert x l)
 unfolding insert
 insert_short x [] = record { is = omega arith }
 insert_short x (y ∷ l) =
-    by-test (Short (suc (suc (length l)))) (leb x y) (λ e. record { is = omega arith }) (λ e. record { is = let h = (insert_short x l).is in omega arith })
+    by_test (Short (suc (suc (length l)))) (leb x y) (λ e. record { is = omega arith }) (λ e. record { is = let h = (insert_short x l).is in omega arith })
 
 sorted_short : (l : List ℕ) → length (sorted l) ≤ length l
 unfolding sorted
@@ -85,7 +85,7 @@ unfolding cancel
 cancel_short [] = record { is = omega arith }
 cancel_short (x ∷ []) = record { is = omega arith }
 cancel_short (x ∷ y ∷ l) =
-    by-test (Short (suc (suc (length l)))) (eqb x y)
+    by_test (Short (suc (suc (length l)))) (eqb x y)
     (λ e. record { is = let h = (cancel_short l).is in omega arith })
     (λ e. record { is = let h = (cancel_short (y ∷ l)).is in omega arith })
 
@@ -111,10 +111,10 @@ module _ (S : ℕ → Type 0) (k : Closed S) where
   one_in = rw (← one_is) (k.has_flip 0 true k.has_zero)
 
   neg_all : (l : List ℕ) → All S l → All S (map neg l)
-  neg_all l = map-all S neg l (λ s. k.has_flip s true)
+  neg_all l = map_all S neg l (λ s. k.has_flip s true)
 
   plain_all : (l : List ℕ) → All S l → All S (map without_inversion l)
-  plain_all l = map-all S without_inversion l plain_in
+  plain_all l = map_all S without_inversion l plain_in
 
   module _ (n : ℕ) where
     copy_form : (s : ℕ) → S s → Form S n (copied s)
@@ -128,18 +128,18 @@ module _ (S : ℕ → Type 0) (k : Closed S) where
 
     least_in : (a b : ℕ) → S a → S b → S (least a b)
     unfolding least
-    least_in a b p q = by-test S (leb a b) (λ e. p) (λ e. q)
+    least_in a b p q = by_test S (leb a b) (λ e. p) (λ e. q)
 
     most_in : (a b : ℕ) → S a → S b → S (most a b)
     unfolding most
-    most_in a b p q = by-test S (leb a b) (λ e. q) (λ e. p)
+    most_in a b p q = by_test S (leb a b) (λ e. q) (λ e. p)
 
     module _ (two : 2 ≤ n) where
       and_sorted_form : (x y : ℕ) (z : Bool) → S x → S y → Form S n (and_sorted x y z)
       unfolding and_sorted made2 shaped fits_code fits_table kind_of
       and_sorted_form x y z p q =
-          by-or2 (Form S n) x 0 x (neg y) (λ e. bool_form z) (λ e. bool_form z) (λ _ _.
-          by-or2 (Form S n) x 1 x y (λ e. copy_form _ (k.has_flip y z q)) (λ e. copy_form _ (k.has_flip y z q)) (λ _ _.
+          by_or2 (Form S n) x 0 x (neg y) (λ e. bool_form z) (λ e. bool_form z) (λ _ _.
+          by_or2 (Form S n) x 1 x y (λ e. copy_form _ (k.has_flip y z q)) (λ e. copy_form _ (k.has_flip y z q)) (λ _ _.
           gate_form _ z (record { is_shaped = refl; comb = refl; few = two; signals = (p, (q, tt)) })))
 
       pub and_form : (a b : ℕ) (z : Bool) → S a → S b → Form S n (make_and a b z)
@@ -149,8 +149,8 @@ module _ (S : ℕ → Type 0) (k : Closed S) where
       xor_sorted_form : (x y : ℕ) (z : Bool) → S x → S y → Form S n (xor_sorted x y z)
       unfolding xor_sorted made2 shaped fits_code fits_table kind_of
       xor_sorted_form x y z p q =
-          by-eq (Form S n) x 0 (λ e. copy_form _ (k.has_flip y z q)) (λ _.
-          by-eq (Form S n) x y (λ e. bool_form z) (λ _.
+          by_eq (Form S n) x 0 (λ e. copy_form _ (k.has_flip y z q)) (λ _.
+          by_eq (Form S n) x y (λ e. bool_form z) (λ _.
           gate_form _ z (record { is_shaped = refl; comb = refl; few = two; signals = (p, (q, tt)) })))
 
       pub xor_form : (a b : ℕ) (z : Bool) → S a → S b → Form S n (make_xor a b z)
@@ -179,9 +179,9 @@ module _ (S : ℕ → Type 0) (k : Closed S) where
       and3_sorted_form : (x y w : ℕ) (z : Bool) → S x → S y → S w → Form S n (and3_sorted x y w z)
       unfolding and3_sorted made3 shaped fits_code fits_table kind_of
       and3_sorted_form x y w z p q r =
-          by-or3 (Form S n) x 0 x (neg y) w (neg y) (λ e. bool_form z) (λ e. bool_form z) (λ e. bool_form z) (λ _ _ _.
-          by-or2 (Form S n) x 1 x y (λ e. and_form two y w z q r) (λ e. and_form two y w z q r) (λ _ _.
-          by-eq (Form S n) y w (λ e. and_form two x y z p q) (λ _.
+          by_or3 (Form S n) x 0 x (neg y) w (neg y) (λ e. bool_form z) (λ e. bool_form z) (λ e. bool_form z) (λ _ _ _.
+          by_or2 (Form S n) x 1 x y (λ e. and_form two y w z q r) (λ e. and_form two y w z q r) (λ _ _.
+          by_eq (Form S n) y w (λ e. and_form two x y z p q) (λ _.
           gate_form _ z (record { is_shaped = refl; comb = refl; few = three; signals = (p, (q, (r, tt))) }))))
 
       pub and3_form : (a b c : ℕ) (z : Bool) → S a → S b → S c → Form S n (make_and3 a b c z)
@@ -191,9 +191,9 @@ module _ (S : ℕ → Type 0) (k : Closed S) where
       xor3_sorted_form : (x y w : ℕ) (z : Bool) → S x → S y → S w → Form S n (xor3_sorted x y w z)
       unfolding xor3_sorted made3 shaped fits_code fits_table kind_of
       xor3_sorted_form x y w z p q r =
-          by-eq (Form S n) x 0 (λ e. xor_form two y w z q r) (λ _.
-          by-eq (Form S n) x y (λ e. copy_form _ (k.has_flip w z r)) (λ _.
-          by-eq (Form S n) y w (λ e. copy_form _ (k.has_flip x z p)) (λ _.
+          by_eq (Form S n) x 0 (λ e. xor_form two y w z q r) (λ _.
+          by_eq (Form S n) x y (λ e. copy_form _ (k.has_flip w z r)) (λ _.
+          by_eq (Form S n) y w (λ e. copy_form _ (k.has_flip x z p)) (λ _.
           gate_form _ z (record { is_shaped = refl; comb = refl; few = three; signals = (p, (q, (r, tt))) }))))
 
       pub xor3_form : (a b c : ℕ) (z : Bool) → S a → S b → S c → Form S n (make_xor3 a b c z)
@@ -215,30 +215,30 @@ module _ (S : ℕ → Type 0) (k : Closed S) where
           let and-b = and_form two (neg s) b z ns r in
           let and-a = and_form two s a z p q in
           let or-a = and_form two s (neg a) (not z) p na in
-          by-or2 (Form S n) s 0 a b (λ e. copied-b) (λ e. copied-b) (λ _ _.
-          by-or2 (Form S n) s a a 1 (λ e. or-b) (λ e. or-b) (λ _ _.
-          by-or2 (Form S n) s (neg a) a 0 (λ e. and-b) (λ e. and-b) (λ _ _.
-          by-or2 (Form S n) s b b 0 (λ e. and-a) (λ e. and-a) (λ _ _.
-          by-or2 (Form S n) s (neg b) b 1 (λ e. or-a) (λ e. or-a) (λ _ _.
-          by-eq (Form S n) a (neg b) (λ e. xor_form two s b z p r) (λ _.
+          by_or2 (Form S n) s 0 a b (λ e. copied-b) (λ e. copied-b) (λ _ _.
+          by_or2 (Form S n) s a a 1 (λ e. or-b) (λ e. or-b) (λ _ _.
+          by_or2 (Form S n) s (neg a) a 0 (λ e. and-b) (λ e. and-b) (λ _ _.
+          by_or2 (Form S n) s b b 0 (λ e. and-a) (λ e. and-a) (λ _ _.
+          by_or2 (Form S n) s (neg b) b 1 (λ e. or-a) (λ e. or-a) (λ _ _.
+          by_eq (Form S n) a (neg b) (λ e. xor_form two s b z p r) (λ _.
           gate_form _ z (record { is_shaped = refl; comb = refl; few = three; signals = (p, (q, (r, tt))) })))))))
 
       mux_select_form : (s a b : ℕ) (z : Bool) → S s → S a → S b → Form S n (mux_select s a b z)
       unfolding mux_select
       mux_select_form s a b z p q r =
-          by-test (Form S n) (is_inverted b)
+          by_test (Form S n) (is_inverted b)
           (λ e. mux_plain_form s (neg a) (neg b) (not z) p (k.has_flip a true q) (k.has_flip b true r))
           (λ e. mux_plain_form s a b z p q r)
 
       pub mux_form : (s a b : ℕ) (z : Bool) → S s → S a → S b → Form S n (make_mux s a b z)
       unfolding make_mux
       mux_form s a b z p q r =
-          by-test (Form S n) (is_inverted s) (λ e. mux_select_form (neg s) b a z (k.has_flip s true p) r q) (λ e. mux_select_form s a b z p q r)
+          by_test (Form S n) (is_inverted s) (λ e. mux_select_form (neg s) b a z (k.has_flip s true p) r q) (λ e. mux_select_form s a b z p q r)
 
       maj_plain_form : (x y w : ℕ) (z : Bool) → S x → S y → S w → Form S n (maj_plain x y w z)
       unfolding maj_plain made3 shaped fits_code fits_table kind_of
       maj_plain_form x y w z p q r =
-          by-eq (Form S n) x 0 (λ e. and_form two y w z q r) (λ _.
+          by_eq (Form S n) x 0 (λ e. and_form two y w z q r) (λ _.
           gate_form _ z (record { is_shaped = refl; comb = refl; few = three; signals = (p, (q, (r, tt))) }))
 
       maj_sorted_form : (x y w : ℕ) (z : Bool) → S x → S y → S w → Form S n (maj_sorted x y w z)
@@ -246,9 +246,9 @@ module _ (S : ℕ → Type 0) (k : Closed S) where
       maj_sorted_form x y w z p q r =
           let copied-w = copy_form (flip w z) (k.has_flip w z r) in
           let copied-x = copy_form (flip x z) (k.has_flip x z p) in
-          by-or2 (Form S n) x (neg y) y w (λ e. copied-w) (λ e. copied-w) (λ _ _.
-          by-or2 (Form S n) y (neg w) x y (λ e. copied-x) (λ e. copied-x) (λ _ _.
-          by-test (Form S n) (is_inverted x)
+          by_or2 (Form S n) x (neg y) y w (λ e. copied-w) (λ e. copied-w) (λ _ _.
+          by_or2 (Form S n) y (neg w) x y (λ e. copied-x) (λ e. copied-x) (λ _ _.
+          by_test (Form S n) (is_inverted x)
           (λ e. maj_plain_form (neg x) (neg y) (neg w) (not z) (k.has_flip x true p) (k.has_flip y true q) (k.has_flip w true r))
           (λ e. maj_plain_form x y w z p q r)))
 
@@ -268,7 +268,7 @@ module _ (S : ℕ → Type 0) (k : Closed S) where
     and_wide_form : (l : List ℕ) (z : Bool) → length l ≤ n → All S l → Form S n (and_wide l z)
     unfolding and_wide
     and_wide_form [] z m h = copy_form _ (k.has_flip 1 z one_in)
-    and_wide_form (x ∷ l) z m h = by-eq (Form S n) x 0 (λ e. bool_form z) (λ _. and_some_form x l z m h.0 h.1)
+    and_wide_form (x ∷ l) z m h = by_eq (Form S n) x 0 (λ e. bool_form z) (λ _. and_some_form x l z m h.0 h.1)
 
     pub and_n_form : (l : List ℕ) (z : Bool) → length l ≤ n → All S l → Form S n (make_and_n l z)
     unfolding make_and_n and_tidy
@@ -276,8 +276,8 @@ module _ (S : ℕ → Type 0) (k : Closed S) where
         let r = without 1 l in
         let few : length (uniq (sorted r)) ≤ n =
         (let a = uniq_short (sorted r) in let b = sorted_short r in let c = without_short 1 l in omega arith) in
-        by-test (Form S n) (opposed (uniq (sorted r))) (λ e. bool_form z)
-        (λ e. and_wide_form (uniq (sorted r)) z few (uniq-all S (sorted r) (sorted_all S r (without_all S 1 l h))))
+        by_test (Form S n) (opposed (uniq (sorted r))) (λ e. bool_form z)
+        (λ e. and_wide_form (uniq (sorted r)) z few (uniq_all S (sorted r) (sorted_all S r (without_all S 1 l h))))
 
     xor_some_form : (l : List ℕ) (z : Bool) → length l ≤ n → All S l → Form S n (xor_some l z)
     unfolding xor_some shaped fits_code fits_table kind_of
@@ -294,7 +294,7 @@ module _ (S : ℕ → Type 0) (k : Closed S) where
         let r = without 0 p in
         let few : length (cancel (sorted r)) ≤ n =
         (let a = (cancel_short (sorted r)).is in let b = sorted_short r in let c = without_short 0 p in let d = length-map l without_inversion in omega arith) in
-        xor_some_form (cancel (sorted r)) _ few (cancel-all S (sorted r) (sorted_all S r (without_all S 0 p (plain_all l h))))
+        xor_some_form (cancel (sorted r)) _ few (cancel_all S (sorted r) (sorted_all S r (without_all S 0 p (plain_all l h))))
 
 -- ---- the whole
 
@@ -361,7 +361,7 @@ dff_cell [] = inl refl
 dff_cell (a ∷ []) = inl refl
 dff_cell (a ∷ b ∷ []) = inl refl
 dff_cell (a ∷ b ∷ c ∷ e ∷ l) = inl refl
-dff_cell (d ∷ en ∷ res ∷ []) = by-or3 Q d 0 en 0 res 1 (λ e. tied) (λ e. tied) (λ e. tied) (λ _ _ _. inl refl)
+dff_cell (d ∷ en ∷ res ∷ []) = by_or3 Q d 0 en 0 res 1 (λ e. tied) (λ e. tied) (λ e. tied) (λ _ _ _. inl refl)
   where
     Q : Norm → Type 0
     Q nm = Cell nm (d ∷ en ∷ res ∷ [])
@@ -392,7 +392,7 @@ pub data Made (g h : Gate) : Type 0 where
 
 module _ (norm : Gate → Norm) (law : NormLaw norm) (g : Gate) (s : shaped g ≡ true) where
   pub made_is : (h : Gate) (z : Bool) → norm g ≡ made h z → Made g h
-  made_is h z q = by_bool (is_dff g) (λ e. go (law.of_cell g s e) e) (λ e. gate e ((law.of_comb_lem Any any_closed g s e (all-each Any g.ins (λ s. tt))).gate h z q))
+  made_is h z q = by_bool (is_dff g) (λ e. go (law.of_cell g s e) e) (λ e. gate e ((law.of_comb_lem Any any_closed g s e (all_each Any g.ins (λ s. tt))).gate h z q))
     where
       go : (norm g ≡ made g false) ⊎ (norm g ≡ copied 0) → is_dff g ≡ true → Made g h
       go (inl r) e = cell e (cc)

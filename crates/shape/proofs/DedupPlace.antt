@@ -1,4 +1,4 @@
--- Looking a gate up among the new nodes: what `findGate`, `place` and `dedupNode` give.
+-- Looking a gate up among the new nodes: what `find_gate`, `place` and `dedup_node` give.
 use mathlib.Core.Path.{◌≡◌, refl, sym, ap, ap₂, ◌∙◌}
 use mathlib.Core.Logic.{◌≢◌}
 use Prim.Native.Nat.{ℕ, suc, ◌≤◌, ◌<◌, suc-le-suc, zero-le}

@@ -13,7 +13,7 @@ use borrow.Author.Tests.{le-ltb, lt-ltb}
 use Rattle.laws.specs.Lists.{All}
 use Rattle.model.specs.Sharing.{State, all_pairs, consume_binary_gates, exclusive_signals, factoring, give_back, holds, join_gate, join_gates, join_round, once, replace_in, replace_pair, retain, round_left, rounds, shared_signals}
 use Rattle.laws.proofs.Choices.{by_bool}
-use Rattle.laws.proofs.Lists.{all-at, all_of, length_map}
+use Rattle.laws.proofs.Lists.{all_at, all_of, length_map}
 use Rattle.shape.proofs.FactoringFuel.{in_le}
 use Rattle.shape.proofs.FactoringSteps.{all_pairs_keeps, consume_keeps, joins_keep}
 
@@ -183,7 +183,7 @@ joins_done s (suc i) a h j k = elim (ℕ_discrete j i) [
   | yes e ↦
       (let later = joins_later s i i (le_refl _) in
       rw (e, joins_suc s i)
-      (rounds_end _ (join_gates s i) i (rw lists_joins h) (le_refl _) (rw later (all-at Some s.lists [] a i h))))
+      (rounds_end _ (join_gates s i) i (rw lists_joins h) (le_refl _) (rw later (all_at Some s.lists [] a i h))))
   | no e ↦ rw (joins_suc s i) (rw (rounds_other (length (get_or (join_gates s i).lists i [])) (join_gates s i) i j e) (joins_done s i a (omega arith) j (omega arith)))
 ]
 

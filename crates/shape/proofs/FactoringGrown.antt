@@ -16,7 +16,7 @@ use Rattle.model.specs.Sharing.{Pair, State, factoring, grown, inside, pair_gate
 use Rattle.shape.specs.Room.{buf_inputs, room_of}
 use Rattle.laws.proofs.Bools.{and_both, and_left, and_right}
 use Rattle.laws.proofs.Choices.{by_bool}
-use Rattle.laws.proofs.Lists.{all_append, all-at, all-each, all_map, all_of, length_map}
+use Rattle.laws.proofs.Lists.{all_append, all_at, all_each, all_map, all_of, length_map}
 use Rattle.shape.proofs.FactoringEnds.{One, Some, lists_factoring, one_left}
 use Rattle.shape.proofs.FactoringSound.{Known, Rising, Sound, factoring_sound}
 use Rattle.shape.proofs.Named.{Here, here_more, here_var, wired_ins, wired_outs, wired_all}
@@ -39,7 +39,7 @@ taken_all P f (g ∷ gs) h = by_bool (takes f g) (λ e. rw e (h.0 e, taken_all P
 taken_some : (f : Family) (gs : List Gate) → All Some (taken f gs)
 taken_some f gs =
     taken_all Some f gs
-    (all-each (λ (g : Gate). takes f g ≡ true → Some g.ins) gs
+    (all_each (λ (g : Gate). takes f g ≡ true → Some g.ins) gs
     (λ g e. omega (arith, ltb-true 1 (length g.ins) (and_right (inside f g) (ltb 1 (length g.ins)) e))))
 
 -- ---- its size
@@ -247,6 +247,6 @@ module _ (f : Family) (N : Net) (ok : Valid N) (fits : length (ended f N).built 
     ins_few = few.1;
     signals =
         wired_all (grown f N)
-        (rw grown_inputs (all-at (Wired N.inputs (size (grown f N))) (grown f N).nodes no_gate grown_wired))
+        (rw grown_inputs (all_at (Wired N.inputs (size (grown f N))) (grown f N).nodes no_gate grown_wired))
         (rw grown_inputs grown_outs);
   }

@@ -12,7 +12,7 @@ use Rattle.model.specs.Network.{has}
 use Rattle.model.specs.Sharing.{Pair, State, exclusive_signals, factoring, give_back, holds, join_round, once, replace_in, replace_pair, retain, round_left, round_pairs, shared_signals}
 use Rattle.model.specs.Signal.{from_var}
 use Rattle.laws.proofs.Bools.{and_left, and_right}
-use Rattle.laws.proofs.Lists.{all_append, all_map, map-all, set_all}
+use Rattle.laws.proofs.Lists.{all_append, all_map, map_all, set_all}
 use Rattle.shape.proofs.FactoringEnds.{factoring_parts, given, paired}
 use Rattle.shape.proofs.FactoringFuel.{TwoIn}
 use Rattle.shape.proofs.FactoringLists.{replace_in_all, retain_all}
@@ -36,7 +36,7 @@ pub record Sound (P : ℕ → Type 0) (n₀ : ℕ) (s : State) : Type 0 where
 -- ---- lists of what P holds of
 
 retains_all : (P : ℕ → Type 0) (t : ℕ → Bool) (gs : List (List ℕ)) → All (All P) gs → All (All P) (map (retain t) gs)
-retains_all P t gs h = map-all (All P) (retain t) gs (λ l. retain_all P t l) h
+retains_all P t gs h = map_all (All P) (retain t) gs (λ l. retain_all P t l) h
 
 given_all : (P : ℕ → Type 0) (gs os : List (List ℕ)) → All (All P) gs → All (All P) os → All (All P) (give_back gs os)
 unfolding give_back
@@ -80,7 +80,7 @@ module _ (P : ℕ → Type 0) (n₀ : ℕ) where
       record {
         next_is = rw length-append (omega arith);
         lists_known =
-            map-all (All (Known P n₀ (suc s.next))) (replace_in a b (from_var s.next)) s.lists
+            map_all (All (Known P n₀ (suc s.next))) (replace_in a b (from_var s.next)) s.lists
             (λ l m. replace_in_all (Known P n₀ (suc s.next)) a b (from_var s.next) l (known_new s.next (omega arith)) (known_all s.next (suc s.next) l (omega arith) m))
             h.lists_known;
         pairs_known = rising_append n₀ s.built _ h.pairs_known (rw (← e) (k, tt));

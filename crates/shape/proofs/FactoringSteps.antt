@@ -9,7 +9,7 @@ use lib.ListN.{get_or, length}
 use lib.Dec.{eqb, ltb}
 use borrow.Author.Tests.{eq-eqb, eqb-false, eqb-true}
 use Rattle.model.specs.Sharing.{State, all_pairs, binaries, consume_binary_gates, find_best_pair, greedy, join_gate, join_gates, join_round, on_two, replace_pair, rounds, total}
-use Rattle.laws.proofs.Choices.{by_bool, by-test}
+use Rattle.laws.proofs.Choices.{by_bool, by_test}
 use Rattle.shape.proofs.FactoringFuel.{Two, TwoIn, none_stays, none_turn, some_steps, two_best, two_here, two_ordered}
 
 two_of_lem : (a b : ℕ) → Two (min a b) (max a b) (a ∷ b ∷ [])
@@ -54,7 +54,7 @@ module _ {ℓ} (P : State → Type ℓ) (step : (s : State) (i : ℕ) → P s �
   rounds_keep : (f : ℕ) (s : State) (i : ℕ) → P s → P (rounds f s i)
   unfolding rounds
   rounds_keep zero s i h = h
-  rounds_keep (suc f) s i h = by-test P (ltb 1 (length (get_or s.lists i []))) (λ e. rounds_keep f (join_round s i) i (step s i h)) (λ e. h)
+  rounds_keep (suc f) s i h = by_test P (ltb 1 (length (get_or s.lists i []))) (λ e. rounds_keep f (join_round s i) i (step s i h)) (λ e. h)
 
   pub joins_keep : (s : State) (g : ℕ) → P s → P (join_gates s g)
   unfolding join_gates join_gate

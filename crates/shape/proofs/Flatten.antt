@@ -10,7 +10,7 @@ use lib.ListN.{length, get_or, length-append, get_or-append}
 use lib.Seq.{get_or_at}
 use lib.Dec.{leb}
 use Rattle.laws.specs.Lists.{All}
-use Rattle.laws.proofs.Bools.{and_left, and_right, true-false}
+use Rattle.laws.proofs.Bools.{and_left, and_right, true_false}
 use Rattle.laws.proofs.Choices.{by_bool, clash}
 use Rattle.laws.proofs.Lists.{all_append, all_map}
 use Rattle.kinds.specs.Kinds.{kind_of, in_family, is_flip_flop, wide_of}
@@ -76,7 +76,7 @@ family_comb NorN f h = refl
 family_comb XorN f h = refl
 family_comb XnorN f h = refl
 family_comb Buf f h = refl
-family_comb Dff f h = true-false (sym h)
+family_comb Dff f h = true_false (sym h)
 family_comb Lut f h = refl
 
 pub inside_comb : (f : Family) (g : Gate) → inside f g ≡ true → is_dff g ≡ false

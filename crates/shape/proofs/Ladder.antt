@@ -1,4 +1,4 @@
--- The ladder of tests that `refusalOf` and `sortedRefusalOf` are: a rung answers its number where its line is met.
+-- The ladder of tests that `refusal_of` and `sorted_refusal_of` are: a rung answers its number where its line is met.
 use mathlib.Core.Path.{◌≡◌, refl, sym, ◌∙◌}
 use mathlib.Core.Logic.{◌≢◌, ◌↔◌, ◌⊎◌, inl, inr, ⊎_elim}
 use mathlib.Core.Bool.{Bool, true, false, cond}
@@ -47,7 +47,7 @@ flat4 = (λ q. (q.0, q.1.0, q.1.1.0, q.1.1.1), λ q. (q.0, (q.1, (q.2, q.3))))
 pub flat5 : {A B C D E : Type 0} → (A × (B × (C × (D × E)))) ↔ (A × B × C × D × E)
 flat5 = (λ q. (q.0, q.1.0, q.1.1.0, q.1.1.1.0, q.1.1.1.1), λ q. (q.0, (q.1, (q.2, (q.3, q.4)))))
 
--- ---- the rungs of `refusalOf`
+-- ---- the rungs of `refusal_of`
 
 module _ (img : List ℕ) where
   pub from6 : ℕ

@@ -14,7 +14,7 @@ use borrow.Author.Tests.{eq-eqb, ne_eqb, eqb-true, eqb-false}
 use Rattle.laws.specs.Bools.{bit}
 use Rattle.laws.specs.Lists.{All, Fresh, Distinct}
 use Rattle.laws.proofs.Bools.{or_left, or_right}
-use Rattle.laws.proofs.Lists.{all_map, all-at, all_append, distinct_append}
+use Rattle.laws.proofs.Lists.{all_map, all_at, all_append, distinct_append}
 use Rattle.laws.proofs.Choices.{by_bool, clash}
 use Rattle.model.specs.Network.{has, occ, sum_to, push_if, rising}
 use Rattle.shape.proofs.Sums.{bit_is, bit_isnt}
@@ -146,7 +146,7 @@ module _ (p : ℕ → Bool) where
         | no a ↦ elim (dec_lt j (length A)) [
           | yes b ↦ (let i0 : i ≡ length A + 0 = omega arith in
               let big : get_or (A ++ T) i 0 ≡ get_or T 0 0 = ap (λ x. get_or (A ++ T) x 0) i0 ∙ get_or-append-add A T 0 0 in
-              let small = (all-at (λ x. (p x ≡ true) × (x < n)) A 0 (rising_all n) j b).1 in
+              let small = (all_at (λ x. (p x ≡ true) × (x < n)) A 0 (rising_all n) j b).1 in
               absurd (omega (arith, get_or-append A T 0 j b, big, push_head (p n) n (omega arith))))
           | no b ↦ (let e : i ≡ j = omega arith in let f = ap (λ x. get_or (A ++ T) x 0) e in absurd (omega arith))
         ]

@@ -9,7 +9,7 @@ use lib.ListN.{length, get_or}
 use borrow.Author.Tests.{ltb-true, lt-ltb}
 use Rattle.laws.specs.Lists.{All}
 use Rattle.laws.proofs.Bools.{and_left, and_right, and_both}
-use Rattle.laws.proofs.Lists.{all_map, all_both, map-all, length_map}
+use Rattle.laws.proofs.Lists.{all_map, all_both, map_all, length_map}
 use Rattle.model.specs.Signal.{Ref, rzero, rnode, rinput, ref, flip, is_inverted, from_var, remap_order, remap_ref}
 use Rattle.model.specs.Gate.{Gate, Net, is_dff, remap_gate, no_gate, gate_at, size, shaped, all_shaped, named_ref, named, all_named, gates_named, wired, is_topo_sorted}
 use Rattle.model.proofs.Words.{zero_ref, node_ref}
@@ -76,7 +76,7 @@ all_here i n [] h = refl
 all_here i n (s ∷ l) h = and_both (named i n s) _ h.0 (all_here i n l h.1)
 
 pub all_remap : (τ : ℕ → ℕ) (i m n : ℕ) (l : List ℕ) → ((v : ℕ) → v < m → Here i n (τ v)) → All (Here i m) l → All (Here i n) (map (remap_order τ) l)
-all_remap τ i m n l t = map-all (Here i n) (remap_order τ) l (λ s h. here_through τ i m n s (λ v e. t v (here_node i m s v h e)) h)
+all_remap τ i m n l t = map_all (Here i n) (remap_order τ) l (λ s h. here_through τ i m n s (λ v e. t v (here_node i m s v h e)) h)
 
 -- ---- a network's tests, gate by gate
 

@@ -8,7 +8,7 @@ use mathlib.Core.List.{List, [], ◌∷◌, map}
 use lib.ListN.{length, get_or, set, length-map, length-set, replicate, length-replicate}
 use lib.Seq.{get_or-set_same, get_or-set_other}
 use Rattle.laws.specs.Lists.{All, Fresh, Distinct}
-use Rattle.laws.proofs.Lists.{all_map, all_both, all-at, map-all, get_or_map_in}
+use Rattle.laws.proofs.Lists.{all_map, all_both, all_at, map_all, get_or_map_in}
 use Rattle.model.specs.Signal.{ref, from_var, remap_order}
 use Rattle.model.specs.Gate.{Gate, Net, is_dff, remap_gate, no_gate, gate_at, size, all_shaped, fanin, combs, wired, Valid}
 use Rattle.model.specs.Network.{is_d, has, fill, translation, remap}
@@ -80,7 +80,7 @@ module _ (N : Net) (order : List ℕ) where
     gate_kept v k = remap_gate_lem k.0 k.1 ∙ ap (λ x. remap_gate τ (gate_at N x)) k.2
 
     pub kept_inside : (v : ℕ) → Kept order v → v < size N
-    kept_inside v k = rw k.2 at (all-at (λ o. o < size N) order 0 O.bound k.0 k.1)
+    kept_inside v k = rw k.2 at (all_at (λ o. o < size N) order 0 O.bound k.0 k.1)
 
     pub order_length : length order ≤ size N
     order_length = length_distinct (size N) order O.distinct O.bound
@@ -149,7 +149,7 @@ module _ (N : Net) (order : List ℕ) where
     remap_shaped h = shaped_all (remap order N).nodes (λ j l.
         let l' : j < length order = omega (arith, remap_size) in
         rw (remap_gate_lem j l')
-        (shaped_remap τ (gate_at N (get_or order j 0)) ∙ shaped_at N.nodes h (get_or order j 0) (all-at (λ o. o < size N) order 0 O.bound j l')))
+        (shaped_remap τ (gate_at N (get_or order j 0)) ∙ shaped_at N.nodes h (get_or order j 0) (all_at (λ o. o < size N) order 0 O.bound j l')))
 
     module _ (few : size N ≤ 512) (w : wired N ≡ true) where
       kept_here : (v : ℕ) → Kept order v → Here N.inputs (size (remap order N)) (τ v)
@@ -159,7 +159,7 @@ module _ (N : Net) (order : List ℕ) where
 
       list_here : (l : List ℕ) → In (Kept order) l → All (Here N.inputs (size N)) l → All (Here N.inputs (size (remap order N))) (map (remap_order τ) l)
       list_here l k h =
-          map-all (Here N.inputs (size (remap order N))) (remap_order τ) l
+          map_all (Here N.inputs (size (remap order N))) (remap_order τ) l
           (λ s p. here_through τ N.inputs (size N) (size (remap order N)) s (λ v e. kept_here v (p.0 v e)) p.1)
           (all_both (Names (Kept order)) (Here N.inputs (size N)) l k h)
 
@@ -170,7 +170,7 @@ module _ (N : Net) (order : List ℕ) where
           let l' : j < length order = omega (arith, remap_size) in
           let o = get_or order j 0 in
           rw (remap_inputs, remap_gate_lem j l')
-          (list_here (gate_at N o).ins (O.ins o (j, l', refl)) (wired_ins N w o (all-at (λ x. x < size N) order 0 O.bound j l'))))
+          (list_here (gate_at N o).ins (O.ins o (j, l', refl)) (wired_ins N w o (all_at (λ x. x < size N) order 0 O.bound j l'))))
           (rw (remap_inputs, remap_outs) (list_here N.outs O.outs (wired_outs N w)))
 
     pub remap_valid : Valid N → Valid (remap order N)

@@ -8,7 +8,7 @@ use lib.ListN.{length}
 use lib.Pow.{pow_mono}
 use lib.Dec.{ltb}
 use borrow.Author.Tests.{ltb-true, leb-true, eqb-true}
-use Rattle.laws.proofs.Bools.{true-false, and_left, and_right}
+use Rattle.laws.proofs.Bools.{true_false, and_left, and_right}
 use Rattle.kinds.specs.Kinds.{code_of, kind_of, is_flip_flop}
 use Rattle.kinds.proofs.Codes.{kind_code, code_kind}
 use Rattle.kinds.specs.declared.Kind.{Kind}
@@ -68,20 +68,20 @@ module _ (g : Gate) (gs : List Gate) (s : all_shaped (g ∷ gs) ≡ true) where
 
 only_dff : (t : Kind) → is_flip_flop t ≡ true → t ≡ Dff
 only_dff Dff e = refl
-only_dff And2 e = true-false (sym e)
-only_dff Xor2 e = true-false (sym e)
-only_dff And3 e = true-false (sym e)
-only_dff Xor3 e = true-false (sym e)
-only_dff Maj e = true-false (sym e)
-only_dff Mux e = true-false (sym e)
-only_dff AndN e = true-false (sym e)
-only_dff OrN e = true-false (sym e)
-only_dff NandN e = true-false (sym e)
-only_dff NorN e = true-false (sym e)
-only_dff XorN e = true-false (sym e)
-only_dff XnorN e = true-false (sym e)
-only_dff Buf e = true-false (sym e)
-only_dff Lut e = true-false (sym e)
+only_dff And2 e = true_false (sym e)
+only_dff Xor2 e = true_false (sym e)
+only_dff And3 e = true_false (sym e)
+only_dff Xor3 e = true_false (sym e)
+only_dff Maj e = true_false (sym e)
+only_dff Mux e = true_false (sym e)
+only_dff AndN e = true_false (sym e)
+only_dff OrN e = true_false (sym e)
+only_dff NandN e = true_false (sym e)
+only_dff NorN e = true_false (sym e)
+only_dff XorN e = true_false (sym e)
+only_dff XnorN e = true_false (sym e)
+only_dff Buf e = true_false (sym e)
+only_dff Lut e = true_false (sym e)
 
 -- of a gate that is shaped: a Dff is what has its code
 pub dff_kind : (g : Gate) → shaped g ≡ true → is_dff g ≡ true → g.kind ≡ 13

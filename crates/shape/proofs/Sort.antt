@@ -13,7 +13,7 @@ use lib.Seq.{get_or-append-add}
 use borrow.Author.Tests.{eqb-true, eq-eqb}
 use Rattle.laws.specs.Bools.{bit}
 use Rattle.laws.specs.Lists.{All, Distinct}
-use Rattle.laws.proofs.Lists.{all_map, all-at, all_append, distinct_append, distinct_index}
+use Rattle.laws.proofs.Lists.{all_map, all_at, all_append, distinct_append, distinct_index}
 use Rattle.laws.proofs.Choices.{by_bool, clash}
 use Rattle.model.specs.Gate.{Net, gate_at, size, fanin, combs, wired, is_topo_sorted, Valid}
 use Rattle.model.specs.Network.{vars, is_d, deps, has, occ, sum_to, waits, rising, sort_result, topo_order, sorts, topo_sort}
@@ -139,10 +139,10 @@ module _ (N : Net) where
 
     -- the first of the order are the flip-flops
     dff_at_lem : (j : ℕ) → j < length ffs → is_d N (get_or (topo_order N) j 0) ≡ true
-    dff_at_lem j l = rw (get_or-append ffs ord 0 j l) (all-at (λ x. (is_d N x ≡ true) × (x < size N)) ffs 0 (rising_all (is_d N) (size N)) j l).0
+    dff_at_lem j l = rw (get_or-append ffs ord 0 j l) (all_at (λ x. (is_d N x ≡ true) × (x < size N)) ffs 0 (rising_all (is_d N) (size N)) j l).0
 
     comb_at : (i : ℕ) → i < length ord → is_d N (get_or (topo_order N) (length ffs + i) 0) ≡ false
-    comb_at i l = rw (get_or-append-add ffs ord i 0) (all-at (λ u. (vis u ≡ true) × ((u < size N) × (is_d N u ≡ false))) ord 0 I.of_ord i l).1.1
+    comb_at i l = rw (get_or-append-add ffs ord i 0) (all_at (λ u. (vis u ≡ true) × ((u < size N) × (is_d N u ≡ false))) ord 0 I.of_ord i l).1.1
 
     dff_place : (j : ℕ) → j < length (topo_order N) → is_d N (get_or (topo_order N) j 0) ≡ true → j < length ffs
     dff_place j h d = elim (dec_lt j (length ffs)) [
@@ -200,7 +200,7 @@ module _ (N : Net) where
               let r = has_index m ord (I.in_ord m e (sorts_visited ok m hm)) in
               let xi : x ≡ get_or ord i 0 = ap (λ y. get_or (topo_order N) y 0) q ∙ get_or-append-add ffs ord i 0 in
               let hi : i < length ord = omega (arith, length-append ffs ord) in
-              let w = ordered_index ord I.ordered r.0 x r.1 (all-at (λ o. o < size N) (topo_order N) 0 order_bound j hj) c (rw r.2 mem) in
+              let w = ordered_index ord I.ordered r.0 x r.1 (all_at (λ o. o < size N) (topo_order N) 0 order_bound j hj) c (rw r.2 mem) in
               let same : w.0 ≡ i = distinct_index ord I.distinct w.0 i w.2 hi (w.3 ∙ xi) in
               let l = w.1 in
               (length ffs + r.0, omega arith, get_or-append-add ffs ord r.0 0 ∙ r.2))
@@ -211,7 +211,7 @@ module _ (N : Net) where
           vars_in (Before (topo_order N) j) (gate_at N (get_or (topo_order N) j 0)).ins
           (has_all (Before (topo_order N) j) (deps N (get_or (topo_order N) j 0))
           (λ m mem. before j m hj c mem
-          (all_has (λ d. d < size N) (deps N (get_or (topo_order N) j 0)) m (inside (get_or (topo_order N) j 0) (all-at (λ o. o < size N) (topo_order N) 0 order_bound j hj)) mem)))
+          (all_has (λ d. d < size N) (deps N (get_or (topo_order N) j 0)) m (inside (get_or (topo_order N) j 0) (all_at (λ o. o < size N) (topo_order N) 0 order_bound j hj)) mem)))
 
       order_order : OutsInside N → Order N (topo_order N)
       order_order outs_in = record {
@@ -219,7 +219,7 @@ module _ (N : Net) where
         bound = order_bound;
         ins = λ n k.
             vars_in (Kept (topo_order N)) (gate_at N n).ins
-            (all_map (deps N n) place (inside n (rw k.2 at (all-at (λ o. o < size N) (topo_order N) 0 order_bound k.0 k.1))));
+            (all_map (deps N n) place (inside n (rw k.2 at (all_at (λ o. o < size N) (topo_order N) 0 order_bound k.0 k.1))));
         outs = vars_in (Kept (topo_order N)) N.outs (all_map (vars N.outs) place outs_in);
       }
 

@@ -12,7 +12,7 @@ use borrow.Author.Tests.{ltb-true, ltb-false, lt-ltb}
 use Rattle.laws.proofs.Bools.{and_split, or_left, or_right}
 use Rattle.laws.specs.Lists.{All}
 use Rattle.laws.proofs.Choices.{by_bool, clash}
-use Rattle.laws.proofs.Lists.{all-at}
+use Rattle.laws.proofs.Lists.{all_at}
 use Rattle.model.specs.Signal.{Ref, rzero, rnode, rinput, ref, from_var, from_input}
 use Rattle.model.specs.Gate.{Gate, Net, size, gate_at, no_gate, is_dff, shaped, named_ref, named, all_named, gates_named, wired, below_ref, all_below, sorted_from, is_topo_sorted}
 use Rattle.model.specs.Image.{inputs_in, nodes_in, words_of, net_in, net_of}
@@ -91,7 +91,7 @@ module _ {A : Type 0} (d : A) (t : A → Bool) (all : List A → Bool) (nil : al
 
 -- what holds of every element holds of one that stands in the list
 all_in : (P : ℕ → Type 0) (l : List ℕ) → All P l → (s : ℕ) → In s l → P s
-all_in P l h s m = subst P m.there (all-at P l 0 h m.place m.inside)
+all_in P l h s m = subst P m.there (all_at P l 0 h m.place m.inside)
 
 standing : (l : List ℕ) (k : ℕ) → k < length l → In (get_or l k 0) l
 standing l k m = record { place = k; inside = m; there = refl }

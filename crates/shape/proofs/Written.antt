@@ -10,7 +10,7 @@ use lib.ListN.{length, get_or, take, drop, length-append}
 use lib.Seq.{drop-append_seam, take-append_seam, get_or-append-add}
 use Rattle.model.specs.Gate.{Gate, Net, size, is_lut, shaped, all_shaped}
 use Rattle.model.specs.Image.{words, bytes, word_at, code_at, count_at, size_at, table_at, record_gate, gates_from, end_from, inputs_in, nodes_in, outs_in, span_in, body_of, words_of, net_in, net_of, table_words, gate_words, gates_words, body_words, net_words, image_of}
-use Rattle.model.proofs.Bytes.{words_bytes, length_bytes, get_d_words}
+use Rattle.model.proofs.Bytes.{words_bytes, length_bytes, get_or_words}
 use Rattle.shape.proofs.Walks.{gates_drop, end_drop}
 use Rattle.shape.proofs.Shaped.{kind_small, table_none, first_shaped, rest_shaped}
 
@@ -117,7 +117,7 @@ end_back (g ∷ gs) r t =
 -- a word of the bytes of words
 pub word_of : (ws : List ℕ) (i : ℕ) → i < length ws → word_at (bytes ws) (4 * i) ≡ get_or ws i 0
 word_of ws i l =
-    sym (get_d_words (bytes ws) i (omega (arith, length_bytes ws))) ∙ ap (λ (l : List ℕ). get_or l i 0) (words_bytes ws)
+    sym (get_or_words (bytes ws) i (omega (arith, length_bytes ws))) ∙ ap (λ (l : List ℕ). get_or l i 0) (words_bytes ws)
 
 -- ---- a network's image
 

@@ -11,7 +11,7 @@ use lib.Dec.{eqb}
 use lib.Bits.{bit_and, bit_xor, and_mask, and_high, xor_step, xor_zero_r, differ}
 use mir.Val.{bool_byte}
 use borrow.Author.Tests.{eq-eqb, ne_eqb, lt-ltb, le-ltb, ltb-false, eqb-false, not-true, not-false}
-use Rattle.laws.proofs.Bools.{true-false, taut1}
+use Rattle.laws.proofs.Bools.{true_false, taut1}
 use Rattle.model.specs.Signal.{is_inverted, flip, neg, without_inversion, is_input, is_var, is_constant}
 use Rattle.model.proofs.Words.{plain_is, neg_odd, neg_even, flip_false, remap_constant, remap_input, remap_var}
 use Rattle.signal.specs.Signals.{remapped}
@@ -66,10 +66,10 @@ entry_none t v h = sym (get_or-eq_default t 0 h)
 is_var_lem : (s : ℕ) → is_var s ≡ true → (2 ≤ s) × (s < 2147483648)
 unfolding is_var
 is_var_lem s e = elim (ℕ_discrete (s / 2) 0) [
-  | yes h ↦ true-false (sym e ∙ rw (eq-eqb (s / 2) 0 h) (taut1 (λ b. b && false) (λ b. false) tt (not (is_input s))))
+  | yes h ↦ true_false (sym e ∙ rw (eq-eqb (s / 2) 0 h) (taut1 (λ b. b && false) (λ b. false) tt (not (is_input s))))
   | no h ↦ elim (dec_lt s 2147483648) [
     | yes l ↦ (omega arith, l)
-    | no l ↦ true-false (sym e ∙ rw (le-ltb s 2147483648 (omega arith)))
+    | no l ↦ true_false (sym e ∙ rw (le-ltb s 2147483648 (omega arith)))
   ]
 ]
 
@@ -93,7 +93,7 @@ module _ (s : ℕ) (t : Bool) (e : t ≡ is_var s) where
   remap_stays l f = elim (ℕ_discrete (s / 2) 0) [
     | yes h ↦ sym (remap_constant (λ v. get_or l v 0) s h)
     | no h ↦ elim (dec_lt s 2147483648) [
-      | yes k ↦ true-false (rw (lt-ltb s 2147483648 k, ne_eqb (s / 2) 0 h) at (sym e) ∙ not-true t f)
+      | yes k ↦ true_false (rw (lt-ltb s 2147483648 k, ne_eqb (s / 2) 0 h) at (sym e) ∙ not-true t f)
       | no k ↦ sym (remap_input (λ v. get_or l v 0) s (omega arith))
     ]
   ]

@@ -8,7 +8,7 @@ use lib.ListN.{length, get_or}
 use lib.Dec.{ltb}
 use borrow.Author.Tests.{ltb-true}
 use Rattle.laws.specs.Lists.{All}
-use Rattle.laws.proofs.Lists.{all-at}
+use Rattle.laws.proofs.Lists.{all_at}
 use Rattle.laws.proofs.Tabs.{length_tab, get_or_tab}
 use Rattle.laws.proofs.Bools.{and_left, and_right}
 use Rattle.kinds.specs.Kinds.{kind_of}
@@ -102,7 +102,7 @@ module _ (l : List ℕ) (c : Counts) where
     unfolding network_of net_of
     output_named j h =
         let os = outputs_of l c.outs in
-        let g = all-at (Here c.inputs (size (network_of l c))) os 0 (wired_outs (network_of l c) H.valid.signals) j (rw (length_outputs_of l c.outs) h) in
+        let g = all_at (Here c.inputs (size (network_of l c))) os 0 (wired_outs (network_of l c) H.valid.signals) j (rw (length_outputs_of l c.outs) h) in
         rw (get_or_outputs_of l c.outs j h, size_network) at g
 
     module _ (v : ℕ) (h : v < c.nodes) where
@@ -134,7 +134,7 @@ module _ (l : List ℕ) (c : Counts) where
           let P = Here c.inputs (size (network_of l c)) in
           let g : All P (ins_at l v) =
           subst (λ (x : Gate). All P x.ins) (gate_network v h) (wired_ins (network_of l c) H.valid.signals v (rw size_network h)) in
-          rw (get_or_ins_at l v j q, size_network) at (all-at P (ins_at l v) 0 g j (rw (length_ins_at l v) q))
+          rw (get_or_ins_at l v j q, size_network) at (all_at P (ins_at l v) 0 g j (rw (length_ins_at l v) q))
 
 -- ---- a pass that has put a valid network into an area holds it
 

@@ -15,7 +15,7 @@ use Rattle.pairs.specs.Lists.{Laid, left_at, list_at, lists_of, put_list, put_si
 use Rattle.tables.specs.Layout.{count_at, first_at, input_at, ins_at}
 use Rattle.uses.specs.Loading.{One, Picked, Picks, Stored}
 use Rattle.uses.specs.Uses.{Named, is_once, use_at, use_ix, wanted}
-use Rattle.laws.proofs.Bools.{true-false}
+use Rattle.laws.proofs.Bools.{true_false}
 use Rattle.laws.proofs.Choices.{by_bool}
 use Rattle.pairs.proofs.Gates.{length_list}
 use Rattle.pairs.proofs.Places.{put_list_append, used_at_put_list}
@@ -69,16 +69,16 @@ wanted_put_list l f m o x n = rw (once_put_list l f m x n)
 wanted_yes : (l : List ℕ) (s : ℕ) (t o : Bool) → t ≡ is_once l s → not (beq t o) ≡ false → wanted l o s ≡ true
 unfolding wanted
 wanted_yes l s true true e q = sym e
-wanted_yes l s true false e q = true-false q
-wanted_yes l s false true e q = true-false q
+wanted_yes l s true false e q = true_false q
+wanted_yes l s false true e q = true_false q
 wanted_yes l s false false e q = rw (← e)
 
 wanted_no : (l : List ℕ) (s : ℕ) (t o : Bool) → t ≡ is_once l s → not (beq t o) ≡ true → wanted l o s ≡ false
 unfolding wanted
-wanted_no l s true true e q = true-false (sym q)
+wanted_no l s true true e q = true_false (sym q)
 wanted_no l s true false e q = rw (← e)
 wanted_no l s false true e q = sym e
-wanted_no l s false false e q = true-false (sym q)
+wanted_no l s false false e q = true_false (sym q)
 
 module _ (l : List ℕ) (k s : ℕ) (o t : Bool) (et : t ≡ is_once l s) where
   pub pick_no : not (beq t o) ≡ true → Stored l l k s o 0

@@ -14,7 +14,7 @@ use Rattle.model.specs.Sharing.{once, times, uses}
 use Rattle.pairs.specs.Lists.{area_size, put_used, used_at}
 use Rattle.uses.specs.Loading.{Marked, SameLists}
 use Rattle.uses.specs.Uses.{Named, bump, is_once, tally, tally_all, use_at, use_ix, use_room, zeroed}
-use Rattle.laws.proofs.Choices.{by_bool, by-test}
+use Rattle.laws.proofs.Choices.{by_bool, by_test}
 use Rattle.pairs.proofs.Places.{left_at_put_used, length_put_used, sig_at_put_used, start_at_put_used, used_at_put_used, used_at_put_used_other}
 
 pub ix_low : (s : ℕ) → s < 2147483648 → use_ix s ≡ s
@@ -85,7 +85,7 @@ lists_used l u x h = record { long = length_put_used l u x; sigs = λ k q. sig_a
 
 lists_bump : (l : List ℕ) (s : ℕ) → Named s → SameLists l (bump l s)
 unfolding bump
-lists_bump l s n = by-test (SameLists l) (ltb (use_at l s) 2) (λ e. lists_used l (use_ix s) (use_at l s + 1) (omega (arith, ix_small s n))) (λ e. lists_same l)
+lists_bump l s n = by_test (SameLists l) (ltb (use_at l s) 2) (λ e. lists_used l (use_ix s) (use_at l s + 1) (omega (arith, ix_small s n))) (λ e. lists_same l)
 
 lists_tally : (l m : List ℕ) → All Named m → SameLists l (tally l m)
 unfolding tally

@@ -1,4 +1,4 @@
--- The loop keeps the words as `inputsTo` has them, and whether a byte passed is above 1.
+-- The loop keeps the words as `inputs_to` has them, and whether a byte passed is above 1.
 use Prim.Native.Nat.{◌-◌}
 use Rattle.cycle_checks.proofs.Checking.{Taken}
 use Rattle.cycle_checks.proofs.take_inputs.Given as goal

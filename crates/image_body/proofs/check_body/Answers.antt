@@ -15,7 +15,7 @@ pub of_records-gates-requires : goal.of_records-gates-requires
 of_records-gates-requires c = search (rules, body_end)
 
 pub returns-then-not-gates-outputs : goal.returns-then-not-gates-outputs
-returns-then-not-gates-outputs c = body_absent _ _ _ _ _ c.if-end-count.false _ c.layout-l.ensures c.l-1.given.0.0 (cc) c.if-t-gt2048.false c.requires.0 _ c.of_records-gates.ensures _ c.reach-outputs.ensures (ap not c.if-not-gates-outputs.true)
+returns-then-not-gates-outputs c = body_absent _ _ _ _ _ c.if-end-count.false _ c.layout-l.ensures c.in-Inputs.t (cc) c.if-t-gt2048.false c.requires.0 _ c.of_records-gates.ensures _ c.reach-outputs.ensures (ap not c.if-not-gates-outputs.true)
 
 pub returns-then-strict-gates : goal.returns-then-strict-gates
 returns-then-strict-gates c = search (rules, body_unsorted)

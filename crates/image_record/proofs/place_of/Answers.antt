@@ -13,7 +13,7 @@ pub slice_bounds-body-start : goal.slice_bounds-body-start
 slice_bounds-body-start c = search (rules, place_start)
 
 pub skip-at-requires : goal.skip-at-requires
-skip-at-requires c = place_skip _ _ c.check-c.ensures c.c-1.given.0.0 (cc) _ c.if-nodes-k.false
+skip-at-requires c = place_skip _ _ c.check-c.ensures c.in-Sound.f (cc) _ c.if-nodes-k.false
 
 pub nth-requires : goal.nth-requires
 nth-requires c = search (rules, place_nth)

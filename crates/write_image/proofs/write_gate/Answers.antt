@@ -40,7 +40,7 @@ pub overflow_add-at-3 : goal.overflow_add-at-3
 overflow_add-at-3 c = ins_end _ _ _ _ c.requires _ c.count_at-n.ensures c.well_formed.1.1.0.0
 
 pub write_table-requires : goal.write_table-requires
-write_table-requires c = gate_table _ _ _ _ c.requires _ c.count_at-n.ensures c.put_word.new.0 _ c.put_word.auto.dst c.write_inputs.auto.out
+write_table-requires c = gate_table _ _ _ _ c.requires _ c.count_at-n.ensures c.put_word.new.dst _ c.put_word.auto.dst c.write_inputs.auto.out
 
 pub shape_of-out : goal.shape_of-out
 shape_of-out c = c.write_table.auto.out ∙ c.write_inputs.auto.out ∙ c.put_word.auto.dst

@@ -1,4 +1,4 @@
--- The loop keeps the values as `forwardTo` has them.
+-- The loop keeps the values as `forward_to` has them.
 use Prim.Native.Nat.{◌-◌}
 use Rattle.evaluate.proofs.Turns.{Forwarded}
 use Rattle.evaluate.proofs.passes.forward.Given as goal

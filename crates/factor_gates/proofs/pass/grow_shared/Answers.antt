@@ -9,12 +9,6 @@ room_for-room-requires c = pass_source _ _ _ _ _ c.requires.0
 pub run-r-requires : goal.run-r-requires
 run-r-requires c = pass_loaded _ _ _ _ _ c.requires.0 _ c.room_for-room.ensures
 
-pub enum_known-r : goal.enum_known-r
-enum_known-r c = c.in-To.keys1
-
-pub enum_told-1 : goal.enum_told-1
-enum_told-1 c = c.in_default.keys2
-
 pub shape_of-to-in_default : goal.shape_of-to-in_default
 shape_of-to-in_default c = c.run-r.auto.to
 

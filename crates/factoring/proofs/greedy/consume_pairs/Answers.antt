@@ -8,12 +8,6 @@ loop-a-init c = pairs_start _ _ _ _ _ c.requires
 pub find_best_pair-p-requires : goal.find_best_pair-p-requires
 find_best_pair-p-requires c = c.loop-a.invariant.ready.laid
 
-pub enum_known-p : goal.enum_known-p
-enum_known-p c = c.in-Found.keys1
-
-pub enum_told-1 : goal.enum_told-1
-enum_told-1 c = c.in_default.keys2
-
 pub shape_of-area-in_default : goal.shape_of-area-in_default
 shape_of-area-in_default c = c.loop-a.invariant.same
 

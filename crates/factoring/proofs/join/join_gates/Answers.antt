@@ -10,12 +10,6 @@ loop-i-init c = gates_start _ _ _ _ _ c.requires
 pub join_gate-r-requires : goal.join_gate-r-requires
 join_gate-r-requires c = (c.loop-i.invariant.ready, c.loop-i-test.true)
 
-pub enum_known-r : goal.enum_known-r
-enum_known-r c = c.in-To.keys1
-
-pub enum_told-1 : goal.enum_told-1
-enum_told-1 c = c.in_default.keys2
-
 pub shape_of-area-in_default : goal.shape_of-area-in_default
 shape_of-area-in_default c = c.join_gate-r.auto.area ∙ c.loop-i.invariant.same
 

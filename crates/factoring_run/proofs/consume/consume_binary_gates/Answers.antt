@@ -7,12 +7,6 @@ use Rattle.factoring_run.proofs.consume.consume_binary_gates.Goals as goal
 pub consume_twos-r-requires : goal.consume_twos-r-requires
 consume_twos-r-requires c = c.requires
 
-pub enum_known-r : goal.enum_known-r
-enum_known-r c = c.in-To.keys1
-
-pub enum_told-1 : goal.enum_told-1
-enum_told-1 c = c.in_default.keys2
-
 pub shape_of-area-in_default : goal.shape_of-area-in_default
 shape_of-area-in_default c = c.consume_twos-r.auto.area
 

@@ -13,13 +13,13 @@ pub overflow_cast-n : goal.overflow_cast-n
 overflow_cast-n c = append_inputs _ _ _ c.requires.0
 
 pub put_gate-requires : goal.put_gate-requires
-put_gate-requires c = append_node _ _ _ c.requires.0 c.append_inputs.new.0 c.append_inputs.auto.to
+put_gate-requires c = append_node _ _ _ c.requires.0 c.append_inputs.new.to c.append_inputs.auto.to
 
 pub put_table-requires : goal.put_table-requires
-put_table-requires c = append_node _ _ _ c.requires.0 c.put_gate.new.0 (c.put_gate.auto.net ∙ c.append_inputs.auto.to)
+put_table-requires c = append_node _ _ _ c.requires.0 c.put_gate.new.net (c.put_gate.auto.net ∙ c.append_inputs.auto.to)
 
 pub join-requires : goal.join-requires
-join-requires c = append_join _ _ _ c.requires.0 c.put_table.new.0 _ (c.put_table.auto.net ∙ c.put_gate.auto.net ∙ c.append_inputs.auto.to) c.requires.1
+join-requires c = append_join _ _ _ c.requires.0 c.put_table.new.net _ (c.put_table.auto.net ∙ c.put_gate.auto.net ∙ c.append_inputs.auto.to) c.requires.1
 
 pub overflow_add-result : goal.overflow_add-result
 overflow_add-result c = append_nodes _ _ _ c.requires.0

@@ -27,7 +27,7 @@ work-r-requires c = areas_lent _ _ _ refl c.requires
 
 pub clear_areas-requires : goal.clear_areas-requires
 clear_areas-requires c = let w = c.work-r in
-    areas_both _ _ _ refl c.requires w.new.1.1.1.0 w.auto.1.1.1.0 w.new.1.1.1.1.0 w.auto.1.1.1.1.0
+    areas_both _ _ _ refl c.requires w.new.a w.auto.a w.new.b w.auto.b
 
 pub shape_of-out : goal.shape_of-out
 shape_of-out c = c.work-r.auto.out
@@ -35,13 +35,13 @@ shape_of-out c = c.work-r.auto.out
 pub shape_of-a : goal.shape_of-a
 shape_of-a c = let k = c.clear_areas in
     let w = c.work-r in
-    same_back w.new.1.1.1.0 c.args.a.now w.auto.1.1.1.0 k.new.0 k.auto.0
+    same_back w.new.a c.args.a.now w.auto.a k.new.a k.auto.a
 
 pub shape_of-b : goal.shape_of-b
 shape_of-b c = let k = c.clear_areas in
     let w = c.work-r in
-    same_back w.new.1.1.1.1.0 c.args.b.now w.auto.1.1.1.1.0 k.new.1.0 k.auto.1.0
+    same_back w.new.b c.args.b.now w.auto.b k.new.b k.auto.b
 
 pub returns : goal.returns
 returns c = let w = c.work-r in
-    kept_both _ _ _ refl c.requires w.new.1.1.1.0 w.auto.1.1.1.0 w.new.1.1.1.1.0 w.auto.1.1.1.1.0 _ _ c.clear_areas.ensures _ _ _ _ w.ensures
+    kept_both _ _ _ refl c.requires w.new.a w.auto.a w.new.b w.auto.b _ _ c.clear_areas.ensures _ _ _ _ w.ensures
