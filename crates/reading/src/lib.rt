@@ -8,7 +8,8 @@ ghost use Rattle.std.specs.Io.KnownBytes.{Consumes, IsAtEnd};
 use std::io;
 use std::io::Read;
 
-// Reads until buf is full or the input ends; answers how many bytes it put at the start of buf.
+// Reads until buf is full or the input ends; answers how many bytes it put at the start of buf. Where a read fails, what was read before
+// it stands there.
 pub fn read_full<R: Read>(from: &mut R, buf: &mut [u8]) -> io::Result<usize>
     ensures bound { ReadsAtMost result buf.new }
     ensures bytes { IfOk result (λ n. Consumes (R.remaining from.old) (R.remaining from.new) (take n buf.new)) }

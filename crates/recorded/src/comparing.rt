@@ -1,4 +1,4 @@
-// What an entry left, beside what is recorded: each comparison that does not hold is named on `err`.
+// What an entry left, beside what is recorded: each comparison that does not hold is named on a writer.
 ghost use Rattle.std.specs.Prelude.{◌≡◌, ◌≤◌, IfOk};
 
 use crate::buffers::{holds, holds_words, is_left, slice};

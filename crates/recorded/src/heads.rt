@@ -36,7 +36,7 @@ pub fn print_counts<W: Write>(
     print(out, b" differ\n")
 }
 
-// Reads a file; answers how many bytes it has, none where it is not there.
+// Reads a file; answers how many bytes it has, none where it is not there. Where a read fails, the buffer has what was read before.
 pub fn read<R: Files>(rt: &R, path: &[u8], file: &mut [u8]) -> io::Result<usize>
     ensures { ReadsAtMost result file.new }
 {

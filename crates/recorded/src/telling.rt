@@ -1,4 +1,4 @@
-// Texts, numbers and images to a writer.
+// Texts, numbers and images to a writer. Where that fails, the writer may have some of the bytes.
 ghost use Rattle.std.specs.Prelude.{◌++◌, OnOk, decimal};
 ghost use Rattle.std.specs.Io.KnownBytes.{Appends};
 
