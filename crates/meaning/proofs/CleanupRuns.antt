@@ -15,8 +15,8 @@ use Rattle.shape.specs.Forms.{Ranked, Kept, Order}
 use Rattle.shape.proofs.Remap.{kept_inside}
 use Rattle.shape.proofs.Sort.{sorts_ranked, sorted_sorts}
 use Rattle.shape.proofs.Cleanup.{cleanup_order_lem, cleanup_sorted, reach_kept}
-use Rattle.meaning.proofs.RemapRuns.{carry, carry_consistent, carry_outputs, carry_next}
-use Rattle.meaning.proofs.RemapCarried.{remap_runs, remap_zero, remap_probe}
+use Rattle.meaning.proofs.RemapRuns.{carry}
+use Rattle.meaning.proofs.RemapCarried.{remap_runs, remap_zero, remap_probe, carry_consistent, carry_outputs, carry_next}
 
 module _ (N : Net) (A : Valid N) where
   order : Order N (cleanup_order N)
