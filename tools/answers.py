@@ -147,6 +147,16 @@ def substituted(text, to):
     return re.sub(rf"(?<![^\s(\[,{{])({NAME})", turn, text)
 
 
+def given_as(arg, declared):
+    """What an argument of tie.spec stands for, a declaration's name or a λ: its comments, `unfolding` lines, parameters and body."""
+    if arg in declared:
+        return declared[arg]
+    m = re.match(r"λ ((?:[^.\s]+ )*[^.\s]+)\.((?:.|\n)*)$", arg)
+    if not m:
+        raise Unturned(f"neither a name nor a λ: {arg}")
+    return [], [], m[1].split(), m[2]
+
+
 def blocks_of(text):
     out, block = [], []
     for line in text.split("\n"):
@@ -202,13 +212,7 @@ def turn(file, fn, crate, path):
         (old_loop, new_loop), variables = fn.loops[k // 2]
         changed = fn.changed[k // 2]
         kind = ("invariant", "decreases")[k % 2]
-        if arg in invariants:
-            notes, mid, params, body = invariants[arg]
-        else:
-            m = re.match(r"λ ((?:[^.\s]+ )*[^.\s]+)\. ((?:.|\n)*)$", arg)
-            if not m:
-                raise Unturned(f"invariant {arg}")
-            notes, mid, params, body = [], [], m[1].split(), m[2]
+        notes, mid, params, body = given_as(arg, invariants)
         now = [v for v, c in zip(variables, changed) if c]
         if len(params) != len(variables) + len(now):
             raise Unturned(f"{kind}: {params} for {variables} and {now}")
@@ -222,13 +226,7 @@ def turn(file, fn, crate, path):
     for k, arg in enumerate(need_args):
         new = fn.needs[k][1]
         at = fn.by_new[fn.asked[k]]
-        if arg in needs:
-            notes, mid, params, body = needs[arg]
-        else:
-            m = re.match(r"λ ((?:[^.\s]+ )*[^.\s]+)\.((?:.|\n)*)$", arg)
-            if not m:
-                raise Unturned(f"answer {arg}")
-            notes, mid, params, body = [], [], m[1].split(), m[2]
+        notes, mid, params, body = given_as(arg, needs)
         if params[0] != "c":
             raise Unturned(f"parameters {params}")
         if FOUND_ALONE.fullmatch(body.strip()) and not mid:
