@@ -7,6 +7,7 @@ use mathlib.Core.List.{List, ◌∷◌}
 use native.Mathlib.Omega.{arith}
 use native.Mathlib.Numerals.{add-one}
 use lib.ListN.{drop, get_or}
+use Rattle.std.specs.Prelude.{Some, None}
 use borrow.Author.Tests.{eq-eqb, ne_eqb}
 use Rattle.model.specs.Sharing.{Top, beats, consider, find_best_pair, together, top_in, top_over, top_with}
 use Rattle.pairs.specs.Lists.{left_at, list_at, lists_of, sig_at, start_at}
@@ -14,7 +15,6 @@ use Rattle.best_pair.specs.Search.{best_of, considered, in_top, with_top}
 use Rattle.top_pair.specs.Tops.{top_of}
 use Rattle.pairs.proofs.Walks.{drop_list, drop_lists, get_or_list, list_end, lists_end}
 use Rattle.top_pair.specs.declared.Top as code
-use Rattle.best_pair.specs.declared.Best.TheVariants.{Found, None}
 use Rattle.count_pair.proofs.Counts.{sig_fits, sig_room}
 
 -- consider_pair, consider_both
@@ -29,16 +29,9 @@ module _ (gs : List (List ℕ)) (a b : ℕ) (t : code.Top) (n : ℕ) (e : n ≡ 
 
 pub ruleset considers = (consider_yes, consider_no)
 
-module _ (gs : List (List ℕ)) (a b : ℕ) (t r : code.Top) where
-  pub both_less : a < b → top_of r ≡ considered gs (top_of t) a b → top_of r ≡ with_top gs (top_of t) a b
-  unfolding considered with_top
-  both_less h e = let p : min a b ≡ a = omega arith in let q : max a b ≡ b = omega arith in rw (p, q) e
-
-  pub both_more : b ≤ a → top_of r ≡ considered gs (top_of t) b a → top_of r ≡ with_top gs (top_of t) a b
-  unfolding considered with_top
-  both_more h e = let p : min a b ≡ b = omega arith in let q : max a b ≡ a = omega arith in rw (p, q) e
-
-pub ruleset boths = (both_less, both_more)
+pub both_is : (gs : List (List ℕ)) (a b p q : ℕ) (t r : code.Top) → p ≡ min a b → q ≡ max a b → top_of r ≡ considered gs (top_of t) p q → top_of r ≡ with_top gs (top_of t) a b
+unfolding considered with_top
+both_is gs a b p q t r ep eq e = rw (← ep, ← eq) e
 
 -- best_with: the invariant is x ≡ top_with gs (top_of u) a (drop k (list_at area i))
 pub with_start : (gs : List (List ℕ)) (t : Top) (area : List ℕ) (i j f n a : ℕ) → f ≡ start_at area i → n ≡ left_at area i → j < left_at area i → a ≡ sig_at area (f + j)
@@ -89,7 +82,7 @@ module _ (area : List ℕ) (g : ℕ) (x : Top) (u : code.Top) (i : ℕ) (inv : x
   unfolding top_over best_of top_of
   over_none h z = let e : x ≡ top_of u = inv ∙ rw (lists_end area g i h) in rw e (rw (eq-eqb u.n 0 z))
 
-  pub over_found : g ≤ i → u.n ≢ 0 → Found u.a u.b ≡ best_of x
+  pub over_found : g ≤ i → u.n ≢ 0 → Some (u.a, u.b) ≡ best_of x
   unfolding top_over best_of top_of
   over_found h z = let e : x ≡ top_of u = inv ∙ rw (lists_end area g i h) in rw e (rw (ne_eqb u.n 0 z))
 

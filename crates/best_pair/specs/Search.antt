@@ -1,8 +1,6 @@
--- The search for the best pair. `Best` is the enum of src/lib.rt.
-use Rattle.std.specs.Prelude.{suc, ℕ, cond, List, drop, get_or, eqb}
+-- The search for the best pair.
+use Rattle.std.specs.Prelude.{suc, ℕ, cond, List, drop, get_or, eqb, Option, Some, None}
 use Rattle.model.specs.Sharing.{Top, consider, make_pair, top_with}
-use Rattle.best_pair.specs.declared.Best.{Best}
-use Rattle.best_pair.specs.declared.Best.TheVariants.{Found, None}
 
 -- the pair of a and b, smaller word first or not
 unfoldable pub considered : List (List ℕ) → Top → ℕ → ℕ → Top
@@ -16,5 +14,5 @@ unfoldable pub in_top : List (List ℕ) → Top → List ℕ → ℕ → Top
 in_top gs t l j = top_with gs t (get_or l j 0) (drop (suc j) l)
 
 -- the answer of find_best_pair
-unfoldable pub best_of : Top → Best
-best_of t = cond (eqb t.count 0) None (Found t.a t.b)
+unfoldable pub best_of : Top → Option (ℕ × ℕ)
+best_of t = cond (eqb t.count 0) None (Some (t.a, t.b))

@@ -11,12 +11,6 @@ use count_pair::count_pair;
 use pairs::lists::{left_at, sig_at, start_at};
 use top_pair::{Top, wins};
 
-#[derive(Clone, Copy)]
-pub enum Best {
-    Found(u32, u32),
-    None,
-}
-
 fn consider_pair(area: &[u32], g: usize, a: u32, b: u32, t: Top) -> Top
     requires { Laid area.now g }
     ensures { top_of result ≡ considered (lists_of area.now g) (top_of t) a b }
@@ -32,10 +26,7 @@ fn consider_both(area: &[u32], g: usize, a: u32, b: u32, t: Top) -> Top
     requires { Laid area.now g }
     ensures { top_of result ≡ with_top (lists_of area.now g) (top_of t) a b }
 {
-    if a < b {
-        return consider_pair(area, g, a, b, t);
-    }
-    consider_pair(area, g, b, a, t)
+    consider_pair(area, g, a.min(b), a.max(b), t)
 }
 
 // The pairs of signal j of gate i with those after it.
@@ -47,10 +38,8 @@ fn best_with(area: &[u32], g: usize, i: usize, j: usize, t: Top) -> Top
     let n = left_at(area, i);
     let a = sig_at(area, f + j);
     let mut u = t;
-    let mut k: usize = j + 1;
-    while k < n {
+    for k in j + 1..n {
         u = consider_both(area, g, a, sig_at(area, f + k), u);
-        k += 1;
     }
     u
 }
@@ -62,28 +51,23 @@ fn best_in(area: &[u32], g: usize, i: usize, t: Top) -> Top
 {
     let n = left_at(area, i);
     let mut u = t;
-    let mut j: usize = 0;
-    while j < n {
+    for j in 0..n {
         u = best_with(area, g, i, j, u);
-        j += 1;
     }
     u
 }
 
 // The pair that most gates hold, by a fresh count; ties go to the smaller first word, then the smaller second.
-pub fn find_best_pair(area: &[u32], g: usize) -> Best
+pub fn find_best_pair(area: &[u32], g: usize) -> Option<(u32, u32)>
     requires { Laid area.now g }
     ensures { result ≡ best_of (find_best_pair (lists_of area.now g)) }
 {
     let mut u = Top { n: 0, a: 0, b: 0 };
-    let mut i: usize = 0;
-    while i < g {
+    for i in 0..g {
         u = best_in(area, g, i, u);
-        i += 1;
     }
-    let n = u.n;
-    if n == 0 {
-        return Best::None;
+    if u.n == 0 {
+        return None;
     }
-    Best::Found(u.a, u.b)
+    Some((u.a, u.b))
 }

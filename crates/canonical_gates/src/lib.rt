@@ -17,15 +17,18 @@ use signal::Signal;
 use ternary_gates::{make_and3, make_dff, make_xor3};
 
 // An And of the inverses: what an Or and a Nor come to.
+#[tactic(auto, using(crate::proofs::Shapes::inverses))]
 fn make_and_inverted(list: &mut [u32], n: usize, inv: bool) -> Normalization
     requires { Listed list.old n }
     ensures { normal_of result list.new ≡ make_and_n (map neg (take n list.old)) inv }
 {
-    invert(list, n);
+    invert(&mut list[..n]);
     make_andn(list, n, inv)
 }
 
 // The normal form of a gate whose n inputs stand at the front of the list. A Lut's table stays with the caller.
+// stays: n beside the list, which is lent with room for three
+#[tactic(auto, using(crate::proofs::Shapes::shapes), unfolding(gates::specs::Normals::normal_of, model::specs::Normal::make_canonical, model::specs::Normal::normal_k, kinds::specs::Kinds::kind_of))]
 pub fn make_canonical(kind: Kind, list: &mut [u32], n: usize) -> Normalization
     requires { Shaped kind list.old n }
     ensures { normal_of result list.new ≡ make_canonical (gate_of kind (take n list.old)) }
@@ -56,18 +59,19 @@ pub fn make_canonical(kind: Kind, list: &mut [u32], n: usize) -> Normalization
     }
 }
 
-// Whether n signals rise in index and the first is no constant.
-fn proper(list: &[u32], n: usize) -> bool
-    requires { Listed list.now n }
-    ensures { result ≡ proper (take n list.now) }
+// Whether signals rise in index and the first is no constant.
+#[tactic(auto, using(crate::proofs::Shapes::propers))]
+fn proper(list: &[u32]) -> bool
+    ensures { result ≡ proper list.now }
 {
-    if n == 0 {
+    if list.is_empty() {
         return false;
     }
     let first = Signal { a: list[0] };
-    sorted_n(list, n) & !first.is_constant()
+    sorted_n(list) & !first.is_constant()
 }
 
+#[tactic(auto, unfolding(model::specs::Normal::mux_canonical))]
 fn mux_canonical(s: Signal, a: Signal, b: Signal) -> bool
     ensures { result ≡ mux_canonical s.a a.a b.a }
 {
@@ -84,13 +88,15 @@ fn mux_canonical(s: Signal, a: Signal, b: Signal) -> bool
         & !s.is_constant()
 }
 
+#[tactic(auto, unfolding(model::specs::Normal::dff_canonical))]
 fn dff_canonical(d: Signal, en: Signal, res: Signal) -> bool
     ensures { result ≡ dff_canonical d.a en.a res.a }
 {
-    (en.a != 0) & (d.a != 0) & (res.a != 1)
+    (en != Signal::ZERO) & (d != Signal::ZERO) & (res != Signal::ONE)
 }
 
 // Whether a gate is in canonical form.
+#[tactic(auto, using(crate::proofs::Shapes::shapes), unfolding(model::specs::Normal::is_canonical, model::specs::Normal::canonical_k, kinds::specs::Kinds::kind_of))]
 pub fn is_canonical(kind: Kind, list: &[u32], n: usize) -> bool
     requires { Shaped kind list.now n }
     ensures { result ≡ is_canonical (gate_of kind (take n list.now)) }
@@ -98,20 +104,15 @@ pub fn is_canonical(kind: Kind, list: &[u32], n: usize) -> bool
     let a = Signal { a: list[0] };
     let b = Signal { a: list[1] };
     let c = Signal { a: list[2] };
+    let ins = &list[..n];
     match kind {
-        Kind::And2 => proper(list, n),
-        Kind::Xor2 => proper(list, n) & no_inv_n(list, n),
-        Kind::And3 => proper(list, n),
-        Kind::Xor3 => proper(list, n) & no_inv_n(list, n),
-        Kind::Maj => proper(list, n) & !a.is_inverted(),
+        Kind::And2 | Kind::And3 => proper(ins),
+        Kind::Xor2 | Kind::Xor3 => proper(ins) & no_inv_n(ins),
+        Kind::Maj => proper(ins) & !a.is_inverted(),
         Kind::Mux => mux_canonical(a, b, c),
-        Kind::AndN => proper(list, n) & (3 < n),
-        Kind::OrN => false,
-        Kind::NandN => false,
-        Kind::NorN => false,
-        Kind::XorN => proper(list, n) & (3 < n) & no_inv_n(list, n),
-        Kind::XnorN => false,
-        Kind::Buf => false,
+        Kind::AndN => proper(ins) & (3 < n),
+        Kind::XorN => proper(ins) & (3 < n) & no_inv_n(ins),
+        Kind::OrN | Kind::NandN | Kind::NorN | Kind::XnorN | Kind::Buf => false,
         Kind::Dff => dff_canonical(a, b, c),
         Kind::Lut => true,
     }

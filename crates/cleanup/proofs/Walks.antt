@@ -18,9 +18,11 @@ use Rattle.tables.specs.Holding.{network_of}
 use Rattle.tables.specs.declared.counts.Counts.{Counts}
 use Rattle.tables.proofs.Places.{length_store, cell_store, cell_store_other}
 use Rattle.tables.proofs.Holding.{size_network}
-use Rattle.remap.specs.Tables.{Sound, ins_from, stack_of, order_from, cleared_table}
+use Rattle.translation.specs.Tables.{cleared_table}
+use Rattle.translation.proofs.Cleared.{length_cleared, cell_cleared}
+use Rattle.remap.specs.Tables.{Sound, ins_from, stack_of, order_from}
 use Rattle.remap.specs.Remapping.{with_nodes, Orders, Remapped}
-use Rattle.remap.proofs.Tabled.{stack_of_same, length_stack_of, length_cleared, cell_cleared, deps_at, outs_at, held_inside, held_outs_inside, held_sound, mark_cond, unseen_most}
+use Rattle.remap.proofs.Tabled.{stack_of_same, length_stack_of, deps_at, outs_at, held_inside, held_outs_inside, held_sound, mark_cond, unseen_most}
 use Rattle.cleanup.specs.Marking.{Pushed, PushIns, PushOuts, Cleanable, Walking, left_of, Walked, Cleaned}
 use Rattle.keep_marked.specs.Orders.{Marked, Keeping}
 

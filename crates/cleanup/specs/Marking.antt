@@ -25,6 +25,17 @@ pub record Pushed (l e ds : List ℕ) (sp r most : ℕ) : Type 0 where
   pub marks : (u : ℕ) → u < 512 → cell e mark_base u ≡ cell l mark_base u
   pub top : r ≤ sp + most
 
+-- asked of n signals, the jth of which is one that `post j` tells, where it may be asked for
+pub record PushAll (pre : ℕ → Type 0) (post : ℕ → ℕ → Type 0) (l : List ℕ) (n sp : ℕ) : Type 0 where
+  pub room : span ≤ length l
+  pub deep : sp + n ≤ 4608
+  pub may : (j : ℕ) → j < n → pre j
+  pub named : (j s : ℕ) → j < n → post j s → Below 512 s
+
+-- the signals told are g 0, .. g (n - 1)
+abbrev pub Tells : (ℕ → ℕ → Type 0) → (ℕ → ℕ) → ℕ → Type 0
+Tells post g n = (j s : ℕ) → j < n → post j s → s ≡ g j
+
 pub record PushIns (from l : List ℕ) (f n sp : ℕ) : Type 0 where
   pub long : net_size ≤ length from
   pub room : span ≤ length l

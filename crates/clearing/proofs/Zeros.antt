@@ -1,15 +1,15 @@
 -- A block whose words join to zero is zero already; blocks set to zero one after the other are an area cleared.
-use mathlib.Core.Path.{◌≡◌, refl, sym, ap, ◌∙◌}
-use Prim.Native.Nat.{ℕ, zero, suc, ◌+◌, ◌*◌, ◌≤◌, ◌<◌}
+use mathlib.Core.Path.{◌≡◌, refl, sym, ap, ap₂, ◌∙◌}
+use Prim.Native.Nat.{ℕ, ◌+◌, ◌-◌, ◌*◌, ◌≤◌, ◌<◌}
 use native.Mathlib.Omega.{arith}
-use native.Mathlib.Nat.{le_antisymm}
-use native.Mathlib.Numerals.{add-one}
-use mathlib.Core.List.{List, [], ◌∷◌, ◌++◌}
-use lib.ListN.{length, get_or, set, drop, replicate, length-set}
+use mathlib.Core.List.{List, [], ◌∷◌, ◌++◌, append_assoc}
+use lib.ListN.{length, drop, replicate, length-replicate, length-drop}
+use lib.Seq.{take_at, drop_at, drop-drop, length-take-le}
 use lib.Bits.{bit_and, bit_or, or_add_and, and_le_l, and_le_r}
-use borrow.Author.Fill.{fill_more}
+use borrow.Rule.Slice.PartMut.{put_mid, mid_of}
+use Rattle.std.specs.List.{fold}
+use Rattle.std.proofs.lemmas.List.{replicate-append-replicate}
 use Rattle.model.specs.Answers.{cleared}
-use Rattle.clearing.specs.Blocks.{joined, zeroed}
 
 -- ---- nothing to write
 
@@ -25,87 +25,49 @@ or_right a b e =
     let r = and_le_l a b in
     omega arith
 
-set_zero : (l : List ℕ) (k : ℕ) → get_or l k 0 ≡ 0 → set l k 0 ≡ l
-set_zero [] k e = refl
-set_zero (x ∷ l) zero e = ap (λ y. y ∷ l) (sym e)
-set_zero (x ∷ l) (suc k) e = ap (λ (m : List ℕ). x ∷ m) (set_zero l k e)
+joined_start : (x : ℕ) (l : List ℕ) → fold bit_or x l ≡ 0 → x ≡ 0
+joined_start x [] e = e
+joined_start x (y ∷ l) e = or_left x y (joined_start (bit_or x y) l e)
 
--- a block that joins to zero
-pub zeroed_none : (l : List ℕ) (from n : ℕ) → joined l from n ≡ 0 → l ≡ zeroed l from n
-unfolding joined zeroed
-zeroed_none l from zero e = refl
-zeroed_none l from (suc n) e =
-    let h : l ≡ zeroed l from n = zeroed_none l from n (or_left (joined l from n) (get_or l (from + n) 0) e) in
-    sym (ap (λ (m : List ℕ). set m (from + n) 0) (sym h) ∙ set_zero l (from + n) (or_right (joined l from n) (get_or l (from + n) 0) e))
-
--- ---- the loops
-
-pub record Joined (l : List ℕ) (from x j : ℕ) : Type 0 where
-  pub few : j ≤ 128
-  pub is : x ≡ joined l from j
-
-module _ (l : List ℕ) (from : ℕ) where
-  pub joined_none : Joined l from 0 0
-  unfolding joined
-  joined_none = record { few = omega arith; is = refl }
-
-  pub joined_more : (x j : ℕ) → Joined l from x j → j < 128 → Joined l from (bit_or x (get_or l (from + j) 0)) (j + 1)
-  unfolding joined
-  joined_more x j h b = record { few = omega arith; is = rw add-one (ap (λ y. bit_or y (get_or l (from + j) 0)) h.is) }
-
-  pub joined_all : (x j : ℕ) → Joined l from x j → 128 ≤ j → x ≡ joined l from 128
-  joined_all x j h b = h.is ∙ ap (joined l from) (le_antisymm h.few b)
-
-pub record Zeroed (l₀ l : List ℕ) (from j : ℕ) : Type 0 where
-  pub few : j ≤ 128
-  pub long : length l ≡ length l₀
-  pub is : l ≡ zeroed l₀ from j
-
-module _ (l₀ : List ℕ) (from : ℕ) where
-  pub zeroing_none : Zeroed l₀ l₀ from 0
-  unfolding zeroed
-  zeroing_none = record { few = omega arith; long = refl; is = refl }
-
-  pub zeroing_more : (l : List ℕ) (j : ℕ) → Zeroed l₀ l from j → j < 128 → Zeroed l₀ (set l (from + j) 0) from (j + 1)
-  unfolding zeroed
-  zeroing_more l j h b =
-      record { few = omega arith; long = simp length-set h.long; is = rw add-one (ap (λ (m : List ℕ). set m (from + j) 0) h.is) }
-
-  pub zeroing_all : (l : List ℕ) (j : ℕ) → Zeroed l₀ l from j → 128 ≤ j → l ≡ zeroed l₀ from 128
-  zeroing_all l j h b = h.is ∙ ap (zeroed l₀ from) (le_antisymm h.few b)
+-- words that join to zero
+pub joined_zero : (x : ℕ) (l : List ℕ) → fold bit_or x l ≡ 0 → l ≡ replicate (length l) 0
+joined_zero x [] e = refl
+joined_zero x (y ∷ l) e =
+    let z : y ≡ 0 = or_right x y (joined_start (bit_or x y) l e) in
+    ap₂ (λ (n : ℕ) (m : List ℕ). n ∷ m) z (joined_zero (bit_or x y) l e)
 
 -- ---- block after block
-
--- the first i words zero, and n more
-zeroed_front : (d : List ℕ) (i n : ℕ) → i + n ≤ length d → zeroed (replicate i 0 ++ drop i d) i n ≡ replicate (i + n) 0 ++ drop (i + n) d
-unfolding zeroed
-zeroed_front d i zero h = let z : i + 0 ≡ i = omega arith in rw z
-zeroed_front d i (suc n) h =
-    let z : i + suc n ≡ i + n + 1 = omega arith in
-    ap (λ (m : List ℕ). set m (i + n) 0) (zeroed_front d i n (omega arith))
-    ∙ fill_more (i + n) 0 d (omega arith)
-    ∙ ap (λ m. replicate m 0 ++ drop m d) (sym z)
 
 pub record Fronts (d l : List ℕ) (k : ℕ) : Type 0 where
   pub few : k ≤ 128
   pub long : length l ≡ length d
   pub is : l ≡ replicate (128 * k) 0 ++ drop (128 * k) d
 
+-- n words behind the first i set to zero
+front_more : (d : List ℕ) (i n : ℕ) → i + n ≤ length d → put_mid i n (replicate i 0 ++ drop i d) (replicate n 0) ≡ replicate (i + n) 0 ++ drop (i + n) d
+front_more d i n h =
+    let z : List ℕ = replicate i 0 in
+    let r : length z ≡ i = length-replicate i 0 in
+    ap₂ (λ (u v : List ℕ). u ++ (replicate n 0 ++ drop n v)) (take_at z (drop i d) i r) (drop_at z (drop i d) i r)
+    ∙ ap (λ (v : List ℕ). z ++ (replicate n 0 ++ v)) (drop-drop n i d)
+    ∙ sym (append_assoc z (replicate n 0) (drop (i + n) d))
+    ∙ ap (λ (u : List ℕ). u ++ drop (i + n) d) (replicate-append-replicate {A = ℕ} i n 0)
+
 module _ (d : List ℕ) (h : 16384 ≤ length d) where
   pub fronts_none : Fronts d d 0
   fronts_none = record { few = omega arith; long = refl; is = refl }
 
   module _ (l : List ℕ) (k : ℕ) (p : Fronts d l k) where
-    pub fronts_room : k < 128 → 128 * k + 128 ≤ length l
-    fronts_room b = rw p.long (omega arith)
-
-    pub fronts_more : (m : List ℕ) → k < 128 → m ≡ zeroed l (128 * k) 128 → length m ≡ length l → Fronts d m (k + 1)
-    fronts_more m b e s =
+    pub fronts_more : (n : ℕ) (b m : List ℕ) → k < 128 → n ≡ 128 * k + 128 - 128 * k → b ≡ replicate (length (mid_of (128 * k) n l)) 0
+        → m ≡ put_mid (128 * k) n l b → length m ≡ length l → Fronts d m (k + 1)
+    fronts_more n b m c e f g s =
         let z : 128 * k + 128 ≡ 128 * (k + 1) = omega arith in
+        let y : n ≡ 128 = omega arith in
+        let w : length (mid_of (128 * k) n l) ≡ n = length-take-le n (drop (128 * k) l) (rw (length-drop, p.long, y) (omega arith)) in
         record {
           few = omega arith;
           long = s ∙ p.long;
-          is = e ∙ ap (λ (u : List ℕ). zeroed u (128 * k) 128) p.is ∙ zeroed_front d (128 * k) 128 (omega arith) ∙ ap (λ i. replicate i 0 ++ drop i d) z;
+          is = g ∙ rw (f, w, y) (ap (λ (u : List ℕ). put_mid (128 * k) 128 u (replicate 128 0)) p.is ∙ front_more d (128 * k) 128 (omega arith) ∙ ap (λ i. replicate i 0 ++ drop i d) z);
         }
 
     pub fronts_all : 128 ≤ k → l ≡ cleared d
@@ -114,4 +76,4 @@ module _ (d : List ℕ) (h : 16384 ≤ length d) where
         let e : 128 * k ≡ 16384 = (let f = p.few in omega arith) in
         p.is ∙ ap (λ i. replicate i 0 ++ drop i d) e
 
-pub ruleset blocks = (zeroed_none, joined_none, joined_more, joined_all, zeroing_none, zeroing_more, zeroing_all, fronts_none, fronts_room, fronts_more, fronts_all)
+pub ruleset blocks = (fronts_none, fronts_all)

@@ -2,52 +2,31 @@
 // writing costs more than reading.
 #![tactic(auto)]
 
-ghost use Rattle.std.specs.Prelude.{◌≡◌, ◌+◌, ◌≤◌, length};
+ghost use Rattle.std.specs.Prelude.{◌≡◌, ◌≤◌, length, fold, replicate};
+ghost use Rattle.std.specs.Int.Bits.{bit_or};
 ghost use Rattle.model.specs.Answers.{cleared};
-ghost use Rattle.clearing.specs.Blocks.{joined, zeroed};
 
 // The words of a block, joined bit by bit: zero where all of them are.
-fn joined(area: &[u32], from: usize) -> u32
-    requires { from + 128 ≤ length area.now }
-    ensures { result ≡ joined area.now from 128 }
+fn joined(block: &[u32]) -> u32
+    ensures { result ≡ fold bit_or 0 block.now }
 {
-    let mut x: u32 = 0;
-    let mut j: usize = 0;
-    while j < 128 {
-        x = x | area[from + j];
-        j += 1;
-    }
-    x
+    block.iter().fold(0, |x, w| x | w)
 }
 
-fn zero(area: &mut [u32], from: usize)
-    requires { from + 128 ≤ length area.old }
-    ensures { area.new ≡ zeroed area.old from 128 }
+fn clear_block(block: &mut [u32])
+    ensures { block.new ≡ replicate (length block.old) 0 }
 {
-    let mut j: usize = 0;
-    while j < 128 {
-        area[from + j] = 0;
-        j += 1;
-    }
-}
-
-fn clear_block(area: &mut [u32], from: usize)
-    requires { from + 128 ≤ length area.old }
-    ensures { area.new ≡ zeroed area.old from 128 }
-{
-    if joined(area, from) == 0 {
+    if joined(block) == 0 {
         return;
     }
-    zero(area, from);
+    block.fill(0);
 }
 
 pub fn clear(area: &mut [u32])
     requires { 16384 ≤ length area.old }
     ensures { area.new ≡ cleared area.old }
 {
-    let mut k: usize = 0;
-    while k < 128 {
-        clear_block(area, 128 * k);
-        k += 1;
+    for k in 0..128 {
+        clear_block(&mut area[128 * k..128 * k + 128]);
     }
 }

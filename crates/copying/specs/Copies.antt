@@ -1,18 +1,8 @@
 -- A gate copied from one network to another, as it is: what each function asks and leaves.
 use Rattle.std.specs.Prelude.{ℕ, ◌+◌, ◌<◌, ◌≤◌, List, length}
 use Rattle.tables.specs.Building.{put_node}
-use Rattle.tables.specs.Layout.{count_at, first_at, high_at, input_at, kind_at, low_at, net_size}
-
--- the input words from f on
-unfoldable pub inputs_from : List ℕ → ℕ → ℕ → ℕ
-inputs_from l f j = input_at l (f + j)
-
--- n input words from f on, put from `at` on
-pub record Copies (from l : List ℕ) (f at n : ℕ) : Type 0 where
-  pub source : net_size ≤ length from
-  pub long : net_size ≤ length l
-  pub ends : f + n ≤ 2048
-  pub room : at + n ≤ 2048
+pub use Rattle.tables.specs.Building.{inputs_from}
+use Rattle.tables.specs.Layout.{count_at, first_at, high_at, kind_at, low_at, net_size}
 
 -- node v, its input words put from `at` on
 pub record Putting (from l : List ℕ) (v at : ℕ) : Type 0 where

@@ -26,8 +26,10 @@ use Rattle.tables.specs.Holding.{network_of}
 use Rattle.tables.specs.declared.counts.Counts.{Counts}
 use Rattle.tables.proofs.Places.{length_store, cell_store, cell_store_other}
 use Rattle.tables.proofs.Holding.{size_network}
-use Rattle.remap.specs.Tables.{cleared_table, ins_from, Sound}
-use Rattle.remap.proofs.Tabled.{length_cleared, cell_cleared, is_d_at, deps_at, held_sound}
+use Rattle.translation.specs.Tables.{cleared_table}
+use Rattle.translation.proofs.Cleared.{length_cleared, cell_cleared}
+use Rattle.remap.specs.Tables.{ins_from, Sound}
+use Rattle.remap.proofs.Tabled.{is_d_at, deps_at, held_sound}
 use Rattle.count_deps.specs.Counting.{count_one, count_ins, count_gate, count_gates, Bounded, CanCount, Counting, GateTurn, Counted}
 use Rattle.count_deps.specs.Counting.{Sortable}
 

@@ -6,12 +6,14 @@ ghost use Rattle.count_deps.specs.Counting.{count_one, count_ins, count_gate, Ca
 ghost use Rattle.count_deps.specs.Counting.{Sortable};
 
 use kinds::is_flip_flop_code;
-use remap::nodes::{clear_table, is_node, node_of};
+use remap::nodes::{is_node, node_of};
 use tables::counts::Counts;
 use tables::layout::{count_at, first_at, input_at, kind_at};
 use tables::scratch::{COUNT, put_word, word};
+use translation::clear_table;
 
 // The node that signal s names is counted.
+#[tactic(auto, using(crate::proofs::Countings::ones))]
 fn count_one(to: &mut [u32], s: u32)
     requires { CanCount to.old s }
     ensures { to.new ≡ count_one to.old s }
@@ -24,17 +26,17 @@ fn count_one(to: &mut [u32], s: u32)
     put_word(to, COUNT, d, n + 1);
 }
 
+#[tactic(auto, using(crate::proofs::Countings::inputs))]
 fn count_inputs(from: &[u32], to: &mut [u32], f: usize, n: usize)
     requires { Counting from.now to.old f n }
     ensures { to.new ≡ count_ins from.now f to.old n }
 {
-    let mut j: usize = 0;
-    while j < n {
+    for j in 0..n {
         count_one(to, input_at(from, f + j));
-        j += 1;
     }
 }
 
+#[tactic(auto, using(crate::proofs::Countings::gate))]
 fn count_gate(from: &[u32], to: &mut [u32], c: Counts, v: usize)
     requires { GateTurn from.now to.old c v }
     ensures { to.new ≡ count_gate from.now to.old v }
@@ -46,15 +48,13 @@ fn count_gate(from: &[u32], to: &mut [u32], c: Counts, v: usize)
 }
 
 // How often each node is named by combinational gates.
+#[tactic(auto, using(crate::proofs::Countings::gates))]
 pub fn count_deps(from: &[u32], to: &mut [u32], c: Counts)
     requires { Sortable from.now to.old c }
     ensures { Counted from.now to.new c }
 {
     clear_table(to, COUNT, 512);
-    let n = c.nodes;
-    let mut v: usize = 0;
-    while v < n {
+    for v in 0..c.nodes {
         count_gate(from, to, c, v);
-        v += 1;
     }
 }

@@ -8,6 +8,7 @@ use tables::layout::input_at;
 use tables::scratch::{COUNT, STACK, put_word, word};
 
 // The node that s names is counted down, and put on the stack at zero.
+#[tactic(auto, using(crate::proofs::Downs::lowers))]
 fn down_one(to: &mut [u32], s: u32, sp: usize) -> usize
     requires { CanDown to.old s sp }
     ensures { Lowered (down_one to.old s sp) to.new result }
@@ -26,15 +27,14 @@ fn down_one(to: &mut [u32], s: u32, sp: usize) -> usize
     sp + 1
 }
 
+#[tactic(auto, using(crate::proofs::Downs::downs))]
 pub fn count_down(from: &[u32], to: &mut [u32], f: usize, n: usize, sp: usize) -> usize
     requires { Downs from.now to.old f n sp }
     ensures { Lowered (down_ins from.now f to.old sp n) to.new result }
 {
     let mut top: usize = sp;
-    let mut j: usize = 0;
-    while j < n {
+    for j in 0..n {
         top = down_one(to, input_at(from, f + j), top);
-        j += 1;
     }
     top
 }

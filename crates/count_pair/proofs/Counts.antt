@@ -1,13 +1,13 @@
 -- Laws of has_signal, holds_both and count_pair.
 use Prim.Native.Nat.{suc, ℕ, ◌+◌, ◌<◌, ◌≤◌}
-use mathlib.Core.Path.{sym, ◌∙◌, ◌≡◌}
+use mathlib.Core.Path.{refl, sym, ◌∙◌, ◌≡◌}
 use mathlib.Core.Logic.{◌≢◌}
 use mathlib.Core.Bool.{Bool, false, true}
 use mathlib.Core.List.{List}
 use native.Mathlib.Omega.{arith}
 use native.Mathlib.Numerals.{add-one}
 use mir.Syntax.{w64}
-use mir.Val.{Fits}
+use mir.Val.{Fits, bool_byte}
 use lib.ListN.{drop}
 use borrow.Author.Tests.{eq-eqb, ne_eqb}
 use Rattle.laws.specs.Bools.{bit}
@@ -53,15 +53,19 @@ module _ (area : List ℕ) (i a b : ℕ) (t : Bool) (e : t ≡ has a (list_at ar
 pub ruleset holdss = (holds_yes, holds_no)
 
 -- count_pair
+bit_byte : (t : Bool) → bit t ≡ bool_byte t
+bit_byte true = refl
+bit_byte false = refl
+
 pub count_start : (area : List ℕ) (g a b : ℕ) → 0 + together a b (drop 0 (lists_of area g)) ≡ together a b (lists_of area g)
 count_start area g a b = omega arith
 
 module _ (area : List ℕ) (g a b n i : ℕ) (inv : n + together a b (drop i (lists_of area g)) ≡ together a b (lists_of area g)) where
-  pub count_step : (t : Bool) (r : ℕ) → i < g → t ≡ holds a b (list_at area i) → r ≡ bit t → (n + r) + together a b (drop (i + 1) (lists_of area g)) ≡ together a b (lists_of area g)
+  pub count_step : (t : Bool) (r : ℕ) → i < g → t ≡ holds a b (list_at area i) → r ≡ bool_byte t → (n + r) + together a b (drop (i + 1) (lists_of area g)) ≡ together a b (lists_of area g)
   unfolding together
   count_step t r l e h =
       let k = drop_lists area g i l in
-      let s : together a b (drop i (lists_of area g)) ≡ r + together a b (drop (suc i) (lists_of area g)) = rw (k, ← e, ← h) in
+      let s : together a b (drop i (lists_of area g)) ≡ r + together a b (drop (suc i) (lists_of area g)) = rw (k, ← e, bit_byte t, ← h) in
       rw (add-one i) (omega arith)
 
   pub count_end : g ≤ i → n ≡ together a b (lists_of area g)
@@ -70,11 +74,11 @@ module _ (area : List ℕ) (g a b n i : ℕ) (inv : n + together a b (drop i (li
       let s : together a b (drop i (lists_of area g)) ≡ 0 = rw (lists_end area g i h) in
       omega arith
 
-pub one_le : (t : Bool) (r n i : ℕ) → r ≡ bit t → n ≤ i → n + r ≤ i + 1
+pub one_le : (t : Bool) (r n i : ℕ) → r ≡ bool_byte t → n ≤ i → n + r ≤ i + 1
 one_le true r n i e h = omega arith
 one_le false r n i e h = omega arith
 
-pub one_fits : (t : Bool) (r n i g : ℕ) → r ≡ bit t → n ≤ i → i < g → Fits w64 g → Fits w64 (n + r)
+pub one_fits : (t : Bool) (r n i g : ℕ) → r ≡ bool_byte t → n ≤ i → i < g → Fits w64 g → Fits w64 (n + r)
 one_fits t r n i g e h l f = let q = one_le t r n i e h in record { fits = omega arith }
 
 pub ruleset counts = (count_start, count_step, one_le, one_fits, count_end)

@@ -2,7 +2,6 @@
 #![tactic(auto)]
 
 ghost use Rattle.std.specs.Prelude.{◌≡◌, ◌<◌};
-ghost use Rattle.laws.specs.Bools.{bit};
 ghost use Rattle.model.specs.Network.{has};
 ghost use Rattle.model.specs.Sharing.{holds, together};
 ghost use Rattle.pairs.specs.Lists.{list_at, lists_of, Laid};
@@ -16,12 +15,10 @@ pub fn has_signal(area: &[u32], g: usize, i: usize, x: u32) -> bool
 {
     let f = start_at(area, i);
     let n = left_at(area, i);
-    let mut j: usize = 0;
-    while j < n {
+    for j in 0..n {
         if sig_at(area, f + j) == x {
             return true;
         }
-        j += 1;
     }
     false
 }
@@ -30,19 +27,7 @@ pub fn holds_both(area: &[u32], g: usize, i: usize, a: u32, b: u32) -> bool
     requires { Laid area.now g × (i < g) }
     ensures { result ≡ holds a b (list_at area.now i) }
 {
-    if has_signal(area, g, i, a) {
-        return has_signal(area, g, i, b);
-    }
-    false
-}
-
-fn one_if(t: bool) -> usize
-    ensures { result ≡ bit t }
-{
-    if t {
-        return 1;
-    }
-    0
+    has_signal(area, g, i, a) && has_signal(area, g, i, b)
 }
 
 // How many gates hold both.
@@ -51,10 +36,8 @@ pub fn count_pair(area: &[u32], g: usize, a: u32, b: u32) -> usize
     ensures { result ≡ together a b (lists_of area.now g) }
 {
     let mut n: usize = 0;
-    let mut i: usize = 0;
-    while i < g {
-        n += one_if(holds_both(area, g, i, a, b));
-        i += 1;
+    for i in 0..g {
+        n += usize::from(holds_both(area, g, i, a, b));
     }
     n
 }

@@ -8,12 +8,14 @@ use mathlib.Core.Bool.{Bool, true, false, ◌&&◌, ◌||◌}
 use mathlib.Core.List.{List}
 use lib.ListN.{length, get_or}
 use lib.Dec.{ltb}
+use mir.Val.{bool_byte}
 use Rattle.laws.specs.Bools.{bit}
 use Rattle.laws.specs.Lists.{some_below}
 use Rattle.laws.proofs.Lists.{some_none}
 use Rattle.model.specs.Evaluate.{truths}
 use Rattle.tables.specs.Layout.{store}
 use Rattle.tables.proofs.Places.{length_store}
+use Rattle.signal_values.proofs.Bits.{byte_bit}
 use Rattle.signal_values.specs.Signals.{values_base, values_end, dff_at}
 use Rattle.cycle_checks.specs.Checks.{inputs_to, above_one, cell_above}
 
@@ -67,13 +69,13 @@ module _ (ins t₀ : List ℕ) where
     pub taken_room : k < i → i ≤ 1024 → values_end ≤ length t₀ → 4672 + (2047 - k) < length t
     taken_room l m r = rw h.long (omega arith)
 
-    pub taken_more : (l : List ℕ) (x : ℕ) → k < i → x ≡ bit (truths ins k) → l ≡ store t values_base (2047 - k) x
+    pub taken_more : (l : List ℕ) (x : ℕ) → k < i → x ≡ bool_byte (truths ins k) → l ≡ store t values_base (2047 - k) x
         → Taken ins t₀ l (a || ltb 1 (get_or ins k 0)) (k + 1) i
     unfolding inputs_to some_below
     taken_more l x m e q = record {
       few = omega arith;
       long = rw (q, length_store) h.long;
-      is = rw (add-one, q, e) (ap (λ (u : List ℕ). store u values_base (2047 - k) (bit (truths ins k))) h.is);
+      is = rw (add-one, q, e, byte_bit (truths ins k)) (ap (λ (u : List ℕ). store u values_base (2047 - k) (bit (truths ins k))) h.is);
       above = rw add-one (ap (λ (b : Bool). b || ltb 1 (get_or ins k 0)) h.above);
     }
 

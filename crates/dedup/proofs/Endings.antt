@@ -1,4 +1,4 @@
--- The loops over whole tables: nodes numbered at first; flip-flops' inputs and outputs translated at last.
+-- The loops over whole tables: nodes numbered at first, flip-flops' inputs translated at last.
 use Prim.Native.Nat.{ℕ, ◌+◌, ◌≤◌, ◌<◌}
 use mathlib.Core.Path.{◌≡◌, refl, ap, ◌∙◌}
 use mathlib.Core.List.{List}
@@ -7,16 +7,13 @@ use native.Mathlib.Nat.{le_antisymm}
 use native.Mathlib.Numerals.{add-one}
 use lib.ListN.{length}
 use mir.Val.{Fits}
-use mir.Syntax.{w32, w64}
+use mir.Syntax.{w32}
 use Rattle.model.specs.Signal.{from_var, remap_order}
-use Rattle.tables.specs.Layout.{net_size, tr_base, input_at, output_at, put_input, put_output, store}
-use Rattle.tables.specs.Building.{put_outputs}
-use Rattle.tables.proofs.Building.{put_outputs_next}
+use Rattle.tables.specs.Layout.{net_size, span, tr_base, input_at, put_input, store}
 use Rattle.lookup.specs.Lists.{filled}
-use Rattle.placing.specs.Lists.{tr_of}
+use Rattle.translation.specs.Tables.{tr_of}
 use Rattle.dedup.specs.States.{numbered, turned}
 use Rattle.lookup.proofs.Filled.{filled_next}
-use Rattle.placing.proofs.Areas.{tr_of_outputs}
 use Rattle.dedup.proofs.Turned.{turned_next}
 
 -- ---- nodes numbered
@@ -37,9 +34,6 @@ module _ (l : List ℕ) where
       pub number_word : tr_base + v < length m
       number_word = omega (arith, P.0, P.1, I.1)
 
-      pub number_count : Fits w64 (v + 1)
-      number_count = record { fits = omega (arith, P.1) }
-
       pub number_next : (s : ℕ) (o : List ℕ) → s ≡ from_var v → length o ≡ length m → o ≡ store m tr_base v s → (v + 1 ≤ n) × (length o ≡ length l) × (o ≡ numbered l (v + 1))
       number_next s o es k eo = (
         omega arith,
@@ -58,8 +52,8 @@ module _ (l : List ℕ) where
   cells_none = refl
 
   module _ (n : ℕ) (P : (16384 ≤ length l) × (n ≤ 2048)) (m : List ℕ) (k : ℕ) (I : (k ≤ n) × (length m ≡ length l) × (m ≡ turned l k)) where
-    pub cells_long : 16384 ≤ length m
-    cells_long = rw I.1 P.0
+    pub cells_long : span ≤ length m
+    cells_long = omega (arith, I.1, P.0)
 
     module _ (h : k < n) where
       pub cells_room : (k < 2048) × (net_size ≤ length m)
@@ -77,42 +71,3 @@ module _ (l : List ℕ) where
 
     pub cells_end : n ≤ k → m ≡ turned l n
     cells_end h = I.2 ∙ ap (turned l) (le_antisymm I.0 h)
-
--- ---- outputs
-
-module _ (src l : List ℕ) where
-  abbrev signals : ℕ → ℕ
-  signals o = remap_order (tr_of l) (output_at src o)
-
-  pub outs_none : l ≡ put_outputs l signals 0
-  unfolding put_outputs
-  outs_none = refl
-
-  module _ (n : ℕ) (P : (net_size ≤ length src) × (16384 ≤ length l) × (n ≤ 64)) (m : List ℕ) (o : ℕ) (I : (o ≤ n) × (length m ≡ length l) × (m ≡ put_outputs l signals o)) where
-    pub outs_long : 16384 ≤ length m
-    outs_long = rw I.1 P.1
-
-    module _ (h : o < n) where
-      pub outs_source : (o < 64) × (net_size ≤ length src)
-      outs_source = (omega (arith, P.2), P.0)
-
-      pub outs_room : (o < 64) × (net_size ≤ length m)
-      outs_room = (omega (arith, P.2), omega (arith, outs_long))
-
-      pub outs_count : Fits w64 (o + 1)
-      outs_count = record { fits = omega (arith, P.2) }
-
-      pub outs_next : (x s : ℕ) (r : List ℕ) → x ≡ output_at src o → s ≡ remap_order (tr_of m) x → length r ≡ length m → r ≡ put_output m o s
-          → (o + 1 ≤ n) × (length r ≡ length l) × (r ≡ put_outputs l signals (o + 1))
-      outs_next x s r ex es q er = (
-        omega arith,
-        q ∙ I.1,
-        rw add-one
-            (er ∙ ap (λ (y : List ℕ). put_output y o s) I.2
-            ∙ put_outputs_next l signals o s
-            (es ∙ ap (remap_order (tr_of m)) ex ∙ ap (λ (y : List ℕ). remap_order (tr_of y) (output_at src o)) I.2
-            ∙ ap (λ (τ : ℕ → ℕ). remap_order τ (output_at src o)) (tr_of_outputs l P.1 signals o (omega (arith, P.2))))),
-      )
-
-    pub outs_end : n ≤ o → m ≡ put_outputs l signals n
-    outs_end h = I.2 ∙ ap (put_outputs l signals) (le_antisymm I.0 h)

@@ -15,7 +15,7 @@ use Rattle.model.specs.Signal.{remap_order}
 use Rattle.model.specs.Gate.{Gate, Net, no_gate, size, is_dff, remap_gate, fanin, is_topo_sorted}
 use Rattle.model.specs.Normal.{Norm}
 use Rattle.model.specs.Network.{Work, remap_dff, dedup_with}
-use Rattle.tables.specs.Layout.{first_at, count_at, input_at, output_at, gate_at, nodes_of, outputs_of, net_of}
+use Rattle.tables.specs.Layout.{span, first_at, count_at, input_at, output_at, gate_at, nodes_of, outputs_of, net_of}
 use Rattle.tables.specs.Building.{Packed, put_outputs}
 use Rattle.tables.specs.Holding.{network_of, Held}
 use Rattle.tables.specs.declared.counts.Counts.{Counts}
@@ -25,10 +25,11 @@ use Rattle.tables.proofs.Holding.{length_nodes_of, get_or_nodes_of, fanin_next, 
 use Rattle.shape.proofs.Named.{wired_outs}
 use Rattle.shape.proofs.DedupSweep.{up_to, cells, cells_first, cells_cells, gates_behind}
 use Rattle.shape.proofs.Dedup.{remap_all, last, result_inputs, result_nodes, result_outs, map_is, turned_comb, turned_cell, dedup_valid, dedup_sorted}
-use Rattle.placing.specs.Lists.{tr_of, norm_of}
+use Rattle.translation.specs.Tables.{tr_of, outputs_by}
+use Rattle.translation.proofs.Translated.{tr_of_cell, tr_of_outputs}
+use Rattle.placing.specs.Lists.{norm_of}
 use Rattle.dedup.specs.States.{Sweeping, turned, Dedupable, Deduped}
 use Rattle.placing.specs.declared.Built.{Built}
-use Rattle.placing.proofs.Areas.{tr_of_cell, tr_of_outputs}
 use Rattle.dedup.proofs.Turned.{length_turned, tr_of_turned, input_at_turned, input_at_turned_past, kind_at_turned, first_at_turned, count_at_turned, low_at_turned, high_at_turned}
 use Rattle.placing.proofs.Lookups.{norm_law}
 
@@ -156,7 +157,7 @@ module _ (src : List ℕ) (c : Counts) (can : Bool) (H : Held src c) (srt : is_t
       }
 
   abbrev outputs : ℕ → ℕ
-  outputs o = remap_order (tr_of m) (output_at src o)
+  outputs = outputs_by src (tr_of m)
 
   abbrev o : List ℕ
   o = put_outputs m outputs c.outs
@@ -165,7 +166,7 @@ module _ (src : List ℕ) (c : Counts) (can : Bool) (H : Held src c) (srt : is_t
   trans_turned = tr_of_turned l S.stands.long b₁.fanin cut_few
 
   outs_turned : outputs_of o c.outs ≡ (dedup_with norm N).outs
-  unfolding network_of net_of outputs_of
+  unfolding network_of net_of outputs_of outputs_by
   outs_turned =
       outputs_of_put_outputs m outputs c.outs (outs_few src c H) (rw length_turned S.stands.packed.long)
       ∙ ap (λ (τ : ℕ → ℕ). tab (λ j. remap_order τ (output_at src j)) c.outs) trans_turned
@@ -188,7 +189,7 @@ module _ (src : List ℕ) (c : Counts) (can : Bool) (H : Held src c) (srt : is_t
         (rw eo outs_turned);
     mapping = λ v h.
         (let few = nodes_few src c H in
-        let z : 16384 ≤ length m = rw length_turned S.stands.long in
+        let z : span ≤ length m = omega (arith, length_turned l b₁.fanin, S.stands.long) in
         sym (tr_of_cell o (rw length_put_outputs z) v (omega arith))
         ∙ ap (λ (τ : ℕ → ℕ). τ v) (tr_of_outputs m z outputs c.outs (outs_few src c H) ∙ trans_turned)
         ∙ trans_is v (rw (size_network src c) h)
@@ -198,9 +199,9 @@ module _ (src : List ℕ) (c : Counts) (can : Bool) (H : Held src c) (srt : is_t
 
 -- the same for the areas as they come out of the calls
 pub finished : (src l l₁ l₂ m o : List ℕ) (c : Counts) (can : Bool) (b₁ b : Built) (r : Counts) → Dedupable src l c → Sweeping src l₁ c true can c.nodes b₁
-    → Sweeping src l₂ c false can c.nodes b → m ≡ turned l₂ b₁.fanin → o ≡ put_outputs m (λ j. remap_order (tr_of m) (output_at src j)) c.outs
+    → Sweeping src l₂ c false can c.nodes b → m ≡ turned l₂ b₁.fanin → o ≡ put_outputs m (outputs_by src (tr_of m)) c.outs
     → r.inputs ≡ c.inputs → r.nodes ≡ b.nodes → r.outs ≡ c.outs → Deduped src o c can r
 finished src l l₁ l₂ m o c can b₁ b r D S₁ S em eo ei en et =
-    let e : o ≡ put_outputs (turned l₂ b₁.fanin) (λ j. remap_order (tr_of (turned l₂ b₁.fanin)) (output_at src j)) c.outs =
-    eo ∙ ap (λ (x : List ℕ). put_outputs x (λ j. remap_order (tr_of x) (output_at src j)) c.outs) em in
+    let e : o ≡ put_outputs (turned l₂ b₁.fanin) (outputs_by src (tr_of (turned l₂ b₁.fanin))) c.outs =
+    eo ∙ ap (λ (x : List ℕ). put_outputs x (outputs_by src (tr_of x)) c.outs) em in
     rw e (finish src c can D.held D.sorted l₁ l₂ b₁ b S₁ S r ei en et)

@@ -8,8 +8,6 @@ use native.Mathlib.Nat.{le_antisymm}
 use native.Mathlib.Numerals.{add-one}
 use lib.ListN.{length}
 use lib.Dec.{eqb}
-use mir.Val.{Fits}
-use mir.Syntax.{w64}
 use Rattle.laws.proofs.Bools.{true_false}
 use Rattle.kinds.specs.Kinds.{kind_of, is_flip_flop}
 use Rattle.model.specs.Signal.{flip, from_var}
@@ -25,28 +23,30 @@ use Rattle.tables.proofs.Holding.{length_nodes_of, length_ins, size_network, gat
 use Rattle.shape.proofs.Named.{shaped_at, wired_ins}
 use Rattle.shape.proofs.DedupSweep.{fanin_total, length_total, is_d, asked, up_to, up_to_turn, up_to_skip, up_to_over, up_to_start, up_to_trans, due_left, count, inputs}
 use Rattle.shape.proofs.Dedup.{remap_all}
-use Rattle.placing.specs.Lists.{tr_of, norm_of}
+use Rattle.translation.specs.Tables.{tr_of}
+use Rattle.translation.proofs.Cleared.{length_cleared, cell_cleared}
+use Rattle.placing.specs.Lists.{norm_of}
 use Rattle.lookup.specs.Chains.{head_base, emptied}
 use Rattle.placing.specs.States.{work_of, Asks, Did, asked_gate}
 use Rattle.dedup.specs.States.{Like, Sweeping, numbered, Dedupable}
 use Rattle.placing.specs.declared.Built.{Built}
-use Rattle.lookup.proofs.Filled.{length_filled, cell_filled, cell_filled_other}
+use Rattle.lookup.proofs.Filled.{length_filled, cell_filled_other}
 use Rattle.dedup.proofs.Turned.{tr_of_numbered}
 use Rattle.lookup.proofs.Chains.{chained_none}
 use Rattle.placing.proofs.Lookups.{norm_law}
 
 -- the code's test of the two kinds of sweep
-pub beq_turn : (a b : Bool) → not (beq a b) ≡ false → a ≡ b
+pub beq_turn : (a b : Bool) → beq a b ≡ true → a ≡ b
 beq_turn true true e = refl
-beq_turn true false e = true_false e
-beq_turn false true e = true_false e
+beq_turn true false e = true_false (sym e)
+beq_turn false true e = true_false (sym e)
 beq_turn false false e = refl
 
-pub beq_skip : (a b : Bool) → not (beq a b) ≡ true → a ≡ not b
-beq_skip true true e = sym e
+pub beq_skip : (a b : Bool) → beq a b ≡ false → a ≡ not b
+beq_skip true true e = true_false e
 beq_skip true false e = refl
 beq_skip false true e = refl
-beq_skip false false e = e
+beq_skip false false e = true_false e
 
 -- ---- states that agree in n translations
 
@@ -153,22 +153,19 @@ module _ (src l : List ℕ) (c : Counts) (cells can : Bool) (v : ℕ) (b : Built
   pub sweep_kind : v < c.nodes → (v < 512) × (net_size ≤ length src)
   sweep_kind h = (omega (arith, nodes_few src c S.held), S.held.long)
 
-  pub sweep_count : v < c.nodes → Fits w64 (v + 1)
-  sweep_count h = record { fits = omega (arith, nodes_few src c S.held) }
-
   pub sweep_end : v ≤ c.nodes → c.nodes ≤ v → Sweeping src l c cells can c.nodes b
   sweep_end a z = subst (λ (k : ℕ). Sweeping src l c cells can k b) (le_antisymm a z) S
 
 module _ (src l : List ℕ) (c : Counts) (cells can : Bool) (v : ℕ) (b : Built) (S : Sweeping src l c cells can v b) (h : v < c.nodes) (x : ℕ) (t : Bool)
-    (ex : x ≡ kind_at src v) (et : t ≡ is_flip_flop (kind_of x)) where
-  pub sweep_asks : not (beq t cells) ≡ false → Asks src l v b
-  sweep_asks q = turn_asks src c can S.held l cells v b S h (cell_is src c can S.held v h t x ex et ∙ beq_turn t cells q)
+    (ex : x ≡ kind_at src v) (et : t ≡ is_flip_flop (kind_of x)) (w : Bool) (ew : w ≡ beq t cells) where
+  pub sweep_asks : w ≡ true → Asks src l v b
+  sweep_asks q = turn_asks src c can S.held l cells v b S h (cell_is src c can S.held v h t x ex et ∙ beq_turn t cells (sym ew ∙ q))
 
-  pub sweep_turn : not (beq t cells) ≡ false → (m : List ℕ) (r : Built) → Did l m v b (norm_of can (asked_gate cells (tr_of l) (gate_at src v))) r → Sweeping src m c cells can (v + 1) r
-  sweep_turn q m r D = turn_did src c can S.held l cells v b S h (cell_is src c can S.held v h t x ex et ∙ beq_turn t cells q) m r D
+  pub sweep_turn : w ≡ true → (m : List ℕ) (r : Built) → Did l m v b (norm_of can (asked_gate cells (tr_of l) (gate_at src v))) r → Sweeping src m c cells can (v + 1) r
+  sweep_turn q m r D = turn_did src c can S.held l cells v b S h (cell_is src c can S.held v h t x ex et ∙ beq_turn t cells (sym ew ∙ q)) m r D
 
-  pub sweep_skip : not (beq t cells) ≡ true → Sweeping src l c cells can (v + 1) b
-  sweep_skip q = turn_skip src c can S.held l cells v b S h (cell_is src c can S.held v h t x ex et ∙ beq_skip t cells q)
+  pub sweep_skip : w ≡ false → Sweeping src l c cells can (v + 1) b
+  sweep_skip q = turn_skip src c can S.held l cells v b S h (cell_is src c can S.held v h t x ex et ∙ beq_skip t cells (sym ew ∙ q))
 
 -- ---- where the sweeps begin
 
@@ -177,7 +174,7 @@ pub sweep_start : (src l e m : List ℕ) (c : Counts) (can : Bool) (b : Built) �
 unfolding fanin
 sweep_start src l e m c can b D ee em bn bf =
     let few = nodes_few src c D.held in
-    let y : 16384 ≤ length e = rw (ee, length_filled) D.long in
+    let y : 16384 ≤ length e = rw (ee, length_cleared) D.long in
     let z : 16384 ≤ length (numbered e c.nodes) = rw length_filled y in
     rw em (record {
       held = D.held;
@@ -188,7 +185,7 @@ sweep_start src l e m c can b D ee em bn bf =
         total = rw (bn, bf) (sym (ap fanin (nodes_of_none (numbered e c.nodes))));
       };
       chained = rw bn (chained_none (numbered e c.nodes)
-          (λ h q. cell_filled_other e tr_base _ c.nodes head_base h (λ i p. omega arith) ∙ ap (λ (x : List ℕ). cell x head_base h) ee ∙ cell_filled l head_base _ 256 h (omega (arith, D.long)) q));
+          (λ h q. cell_filled_other e tr_base _ c.nodes head_base h (λ i p. omega arith) ∙ ap (λ (x : List ℕ). cell x head_base h) ee ∙ cell_cleared l head_base 256 h (omega (arith, D.long)) q));
       like = record {
         trans = λ v h. tr_of_numbered e y c.nodes v few h ∙ sym (up_to_trans (norm_of can) (network_of src c) v);
         news = rw bn (nodes_of_none (numbered e c.nodes) ∙ sym (up_to_start (norm_of can) (network_of src c)));

@@ -8,15 +8,15 @@ use lib.ListN.{length}
 use Rattle.model.specs.Signal.{from_var, remap_order}
 use Rattle.tables.specs.Layout.{net_size, tr_base, kind_at, first_at, count_at, input_at, low_at, high_at, put_input, cell}
 use Rattle.tables.proofs.Places.{length_put_input, input_at_put_input, input_at_put_input_other, kind_at_put_input, first_at_put_input, count_at_put_input, low_at_put_input, high_at_put_input, cell_put_input}
-use Rattle.placing.specs.Lists.{tr_of}
+use Rattle.translation.specs.Tables.{tr_of}
 use Rattle.dedup.specs.States.{numbered, turned}
 use Rattle.lookup.proofs.Filled.{length_filled, cell_filled}
-use Rattle.placing.proofs.Areas.{tr_of_cell, tr_of_same}
+use Rattle.translation.proofs.Translated.{tr_of_cell, tr_of_same}
 
 -- ---- the first translation
 
 pub tr_of_numbered : (l : List ℕ) → 16384 ≤ length l → (n v : ℕ) → n ≤ 512 → v < n → tr_of (numbered l n) v ≡ from_var v
-tr_of_numbered l z n v h q = tr_of_cell (numbered l n) (rw length_filled z) v (omega arith) ∙ cell_filled l tr_base _ n v (omega arith) q
+tr_of_numbered l z n v h q = tr_of_cell (numbered l n) (rw length_filled (omega arith)) v (omega arith) ∙ cell_filled l tr_base _ n v (omega arith) q
 
 -- ---- the first input words, translated in place
 
@@ -32,7 +32,7 @@ module _ (l : List ℕ) (z : 16384 ≤ length l) where
   cell_turned (suc n) c j r far = cell_put_input (turned l n) c j far n _ (omega arith) ∙ cell_turned n c j (omega arith) far
 
   pub tr_of_turned : (n : ℕ) → n ≤ 2048 → tr_of (turned l n) ≡ tr_of l
-  tr_of_turned n r = tr_of_same (turned l n) l (rw length_turned z) z (λ v h. cell_turned n tr_base v r (omega arith))
+  tr_of_turned n r = tr_of_same (turned l n) l (rw length_turned (omega arith)) (omega arith) (λ v h. cell_turned n tr_base v r (omega arith))
 
   pub input_at_turned_past : (n k : ℕ) → n ≤ k → input_at (turned l n) k ≡ input_at l k
   unfolding turned

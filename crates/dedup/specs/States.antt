@@ -8,7 +8,8 @@ use Rattle.tables.specs.Holding.{network_of, Held, Holds}
 use Rattle.tables.specs.declared.counts.Counts.{Counts}
 use Rattle.shape.proofs.DedupSweep.{up_to}
 use Rattle.lookup.specs.Lists.{filled}
-use Rattle.placing.specs.Lists.{tr_of, norm_of}
+use Rattle.translation.specs.Tables.{tr_of}
+use Rattle.placing.specs.Lists.{norm_of}
 use Rattle.lookup.specs.Chains.{Chained}
 use Rattle.placing.specs.declared.Built.{Built}
 use Rattle.placing.specs.States.{Stands, work_of}

@@ -3,11 +3,13 @@
 
 ghost use Rattle.dedup.specs.States.{Dedupable, Deduped};
 
-use crate::ends::{remap_cells, remap_outputs};
+use crate::ends::remap_cells;
 use crate::sweep::{number_nodes, sweep};
 use lookup::chain::empty_chains;
 use placing::Built;
+use placing::list::Sweep;
 use tables::counts::Counts;
+use translation::remap_outputs;
 
 pub mod ends;
 pub mod sweep;
@@ -20,8 +22,8 @@ pub fn dedup(from: &[u32], to: &mut [u32], c: Counts, canonical: bool) -> Counts
     empty_chains(to);
     number_nodes(to, c.nodes);
     let none = Built { nodes: 0, fanin: 0 };
-    let cells = sweep(from, to, c, none, true, canonical);
-    let all = sweep(from, to, c, cells, false, canonical);
+    let cells = sweep(from, to, c, none, Sweep::FlipFlops, canonical);
+    let all = sweep(from, to, c, cells, Sweep::Gates, canonical);
     remap_cells(to, cells.fanin);
     remap_outputs(from, to, c.outs);
     Counts {

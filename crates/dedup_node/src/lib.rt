@@ -5,15 +5,16 @@ ghost use Rattle.std.specs.Prelude.{◌+◌, ◌*◌, ◌^◌, drop};
 ghost use Rattle.tables.specs.Layout.{gate_at};
 ghost use Rattle.gates.specs.Normals.{normal_of};
 ghost use Rattle.same_gate.specs.Listed.{list_base};
-ghost use Rattle.placing.specs.Lists.{tr_of, norm_of, with_table};
+ghost use Rattle.translation.specs.Tables.{tr_of};
+ghost use Rattle.placing.specs.Lists.{of_flip_flops, norm_of, with_table};
 ghost use Rattle.placing.specs.States.{asked_gate, Settles, Asks, Did};
 
 use gates::Normalization;
-use kinds::{code, kind_of};
+use kinds::kind_of;
 use placing::Built;
-use placing::list::{gather, normalize};
+use placing::list::{Sweep, gather, normalize};
 use placing::place::place;
-use same_gate::LIST;
+use same_gate::{LIST, Sought};
 use signal::Signal;
 use tables::layout::{count_at, first_at, high_at, kind_at, low_at};
 use tables::scratch::{TR, put_word};
@@ -29,8 +30,14 @@ fn settle(to: &mut [u32], v: usize, b: Built, r: Normalization, low: u32, high: 
             b
         }
         Normalization::Node { kind, count, inv } => {
-            let p = place(to, b, code(kind), count, low, high);
-            let s = Signal::from_var(p.node as u32).xor(inv);
+            let g = Sought {
+                kind: u32::from(kind),
+                n: count,
+                low: low,
+                high: high,
+            };
+            let p = place(to, b, g);
+            let s = Signal::from_var(p.node as u32) ^ inv;
             put_word(to, TR, v, s.a);
             p.built
         }
@@ -43,14 +50,14 @@ pub fn dedup_node(
     to: &mut [u32],
     v: usize,
     b: Built,
-    cell: bool,
+    by: Sweep,
     canonical: bool,
 ) -> Built
     requires { Asks from.now to.old v b }
-    ensures { Did to.old to.new v b (norm_of canonical (asked_gate cell (tr_of to.old) (gate_at from.now v))) result }
+    ensures { Did to.old to.new v b (norm_of canonical (asked_gate (of_flip_flops by) (tr_of to.old) (gate_at from.now v))) result }
 {
     let n = count_at(from, v);
-    gather(from, to, first_at(from, v), n, cell);
+    gather(from, to, first_at(from, v), n, by);
     let kind = kind_of(kind_at(from, v));
     let r = normalize(kind, &mut to[LIST..], n, canonical);
     settle(to, v, b, r, low_at(from, v), high_at(from, v))

@@ -8,7 +8,7 @@ use mathlib.Core.List.{List}
 use lib.ListN.{length}
 use lib.Dec.{ltb}
 use borrow.Author.Tests.{ne_eqb}
-use Rattle.answers.specs.declared.Answer.TheVariants.{Accepted, Refused}
+use Rattle.std.specs.Prelude.{Ok, Err}
 use Rattle.kinds.specs.Kinds.{kind_of}
 use Rattle.laws.specs.Lists.{some_below}
 use Rattle.laws.proofs.Bools.{and_left, and_right}
@@ -78,12 +78,12 @@ module _ (f t₀ : List ℕ) (c : Counts) (r : Runs f t₀ c) where
     abbrev outcome : Outcome
     outcome = cycle_outcome N ins st (length out)
 
-    refused : (n : ℕ) → n ≡ cycle_refusal N ins st (length out) → n ≢ 0 → Answered2 outcome out st (Refused n) out st
+    refused : (n : ℕ) → n ≡ cycle_refusal N ins st (length out) → n ≢ 0 → Answered2 outcome out st (Err n) out st
     unfolding cycle_outcome unless
     refused n e d = rw (← e, ne_eqb n 0 d) (record { first = record { answer = refl; result = refl }; second_is = refl })
 
     module _ (b : Bool) (e : b ≡ shorter c (length ins) (length st) (length out)) where
-      pub answered_13 : b ≡ true → Answered2 outcome out st (Refused 13) out st
+      pub answered_13 : b ≡ true → Answered2 outcome out st (Err 13) out st
       answered_13 q = refused 13 (refusal_short f c ins st (length out) (sym e ∙ q)) (λ z. omega arith)
 
       module _ (q : b ≡ false) where
@@ -97,12 +97,12 @@ module _ (f t₀ : List ℕ) (c : Counts) (r : Runs f t₀ c) where
         outs_there = outs_long c (length ins) (length st) (length out) (sym e ∙ q)
 
         module _ (x y : Bool) (p : x ≡ some_below (above_one ins) c.inputs) (w : y ≡ some_below (cell_above f st) c.nodes) where
-          pub answered_14 : (x || y) ≡ true → Answered2 outcome out st (Refused 14) out st
+          pub answered_14 : (x || y) ≡ true → Answered2 outcome out st (Err 14) out st
           answered_14 a = refused 14 (refusal_above f c ins st (length out) (sym e ∙ q) x y p w a) (λ z. omega arith)
 
           -- THE CYCLE
           pub answered_0 : (t1 t2 st' out' : List ℕ) → (x || y) ≡ false → t1 ≡ store t₀ values_base 0 0 → t2 ≡ inputs_to ins t1 c.inputs → Ran f t2 c st out st' out'
-              → Answered2 outcome out st (Accepted 0) out' st'
+              → Answered2 outcome out st (Ok 0) out' st'
           unfolding cycle_outcome unless evaluated_of
           answered_0 t1 t2 st' out' a s1 s2 ran =
               let z : 0 ≡ cycle_refusal N ins st (length out) = refusal_none f c ins st (length out) (sym e ∙ q) x y p w a in

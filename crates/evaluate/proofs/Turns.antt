@@ -7,6 +7,7 @@ use native.Mathlib.Numerals.{add-one}
 use mathlib.Core.Bool.{Bool}
 use mathlib.Core.List.{List}
 use lib.ListN.{length, set}
+use mir.Val.{bool_byte}
 use Rattle.laws.specs.Bools.{bit}
 use Rattle.laws.specs.Lists.{tab}
 use Rattle.laws.proofs.Tabs.{tab_ext}
@@ -15,6 +16,7 @@ use Rattle.tables.specs.Layout.{output_at, store}
 use Rattle.tables.proofs.Places.{length_store}
 use Rattle.tables.specs.declared.counts.Counts.{Counts}
 use Rattle.signal_values.specs.Signals.{values_base, is_odd, value_at, Gated}
+use Rattle.signal_values.proofs.Bits.{byte_bit}
 use Rattle.values.specs.Values.{shown_at}
 use Rattle.flip_flops.specs.Storing.{new_byte, Passing}
 use Rattle.flip_flops.proofs.Filling.{Filled, filled_put, filled_none, filled_all}
@@ -53,10 +55,10 @@ module _ (f st t₀ : List ℕ) where
 
 -- ---- the outputs, and what the passes ask
 
-pub output_goes : (f t out l : List ℕ) (j o s x : ℕ) (b : Bool) → Filled (output_byte f t) out l j o → j < o → s ≡ output_at f j → b ≡ value_at t s → x ≡ bit b
+pub output_goes : (f t out l : List ℕ) (j o s x : ℕ) (b : Bool) → Filled (output_byte f t) out l j o → j < o → s ≡ output_at f j → b ≡ value_at t s → x ≡ bool_byte b
     → Filled (output_byte f t) out (set l j x) (j + 1) o
 unfolding output_byte
-output_goes f t out l j o s x b h r p q e = filled_put (output_byte f t) out l j o x h r (e ∙ ap bit (q ∙ ap (value_at t) p))
+output_goes f t out l j o s x b h r p q e = filled_put (output_byte f t) out l j o x h r (e ∙ byte_bit b ∙ ap bit (q ∙ ap (value_at t) p))
 
 pub gated_on : (f t t' : List ℕ) (v : ℕ) → Gated f t v → length t' ≡ length t → Gated f t' v
 gated_on f t t' v h e =

@@ -8,11 +8,13 @@ ghost use Rattle.tables.specs.Working.{Answered2};
 ghost use Rattle.evaluate.specs.Passes.{Putting};
 ghost use Rattle.flip_flops.specs.Storing.{Passing};
 ghost use Rattle.evaluate.specs.Cycle.{shorter, Runs, Ran};
+ghost use Rattle.refusals.specs.Numbers.{numbered};
 
 use crate::passes::{forward, put_outputs};
 use answers::Answer;
 use cycle_checks::{state_above, take_inputs};
 use flip_flops::put_states;
+use refusals::Refusal;
 use signal_values::VALUES;
 use tables::counts::Counts;
 use tables::scratch::put_word;
@@ -46,16 +48,16 @@ pub fn evaluate(
     outputs: &mut [u8],
 ) -> Answer
     requires { Runs from.now to.old counts }
-    ensures { Answered2 (cycle_outcome (network_of from.now counts) inputs.now state.old (length outputs.old)) outputs.old state.old result outputs.new state.new }
+    ensures { Answered2 (cycle_outcome (network_of from.now counts) inputs.now state.old (length outputs.old)) outputs.old state.old (numbered result) outputs.new state.new }
 {
     if short(counts, inputs.len(), state.len(), outputs.len()) {
-        return Answer::Refused(13);
+        return Err(Refusal::Room);
     }
     put_word(to, VALUES, 0, 0);
     let above = take_inputs(to, inputs, counts.inputs);
     if above | state_above(from, state, counts.nodes) {
-        return Answer::Refused(14);
+        return Err(Refusal::Bytes);
     }
     cycle(from, to, counts, state, outputs);
-    Answer::Accepted(0)
+    Ok(0)
 }

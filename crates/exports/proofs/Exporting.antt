@@ -4,7 +4,7 @@ use mathlib.Core.List.{List}
 use Prim.Native.Nat.{ℕ, ◌<◌}
 use native.Mathlib.Omega.{arith}
 use Rattle.answers.specs.Numbers.{length_of}
-use Rattle.answers.specs.declared.Answer.{Answer}
+use Rattle.model.specs.Answers.{Answer}
 use Rattle.model.specs.Answers.{Outcome, Kept, Kept2}
 use Rattle.model.specs.Entries.{read_outcome, evaluate_outcome, canonical_outcome, dedup_outcome, cleanup_outcome, sort_outcome, flatten_outcome, factor_outcome, share_outcome}
 use Rattle.exports.specs.Packed.{packed, Exported, Exported2}

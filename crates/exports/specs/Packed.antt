@@ -1,7 +1,7 @@
 -- An answer for C: "the number in its low 32 bits and the length in its high 32 bits".
 use Rattle.std.specs.Prelude.{◌≡◌, ℕ, ◌+◌, ◌*◌, List}
 use Rattle.answers.specs.Numbers.{number_of, length_of}
-use Rattle.answers.specs.declared.Answer.{Answer}
+use Rattle.model.specs.Answers.{Answer}
 use Rattle.model.specs.Answers.{Outcome, answer_of, Kept, Kept2}
 
 unfoldable pub packed : Answer → ℕ

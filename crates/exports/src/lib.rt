@@ -6,13 +6,14 @@ ghost use Rattle.answers.specs.Numbers.{length_of};
 ghost use Rattle.model.specs.Image.{record_of, record_at_of};
 ghost use Rattle.model.specs.Entries.{read_outcome, evaluate_outcome, canonical_outcome, dedup_outcome, cleanup_outcome, sort_outcome, flatten_outcome, factor_outcome, share_outcome};
 ghost use Rattle.exports.specs.Packed.{packed, Exported, Exported2};
+ghost use Rattle.refusals.specs.Numbers.{numbered};
 
 use answers::Answer;
 
 // An answer in one word: the number in its low 32 bits, the length in its high 32 bits.
 fn pack(a: Answer) -> u64
-    requires { length_of a < 4294967296 }
-    ensures { result ≡ packed a }
+    requires { length_of (numbered a) < 4294967296 }
+    ensures { result ≡ packed (numbered a) }
 {
     (answers::number(a) as u64) + 4294967296 * (answers::length(a) as u64)
 }

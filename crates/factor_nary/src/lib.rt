@@ -9,42 +9,33 @@ ghost use Rattle.stages.specs.Stages.{Workable, Orderable, Staged};
 use dedup::dedup;
 use factor_gates::pass::factor_pass;
 use kinds::Family;
-use stages::{Stage, stage_of_pass};
+use refusals::Refusal;
 use tables::counts::Counts;
-use topo_sort::{Sorting, topo_sort};
+use topo_sort::topo_sort;
 
 // sort, then canonical, of the grown network in `to`, which has no loop: back into `to`.
-fn order(from: &mut [u32], to: &mut [u32], c: Counts) -> Stage
+fn order(from: &mut [u32], to: &mut [u32], c: Counts) -> Result<Counts, Refusal>
     requires { Orderable to.old from.old c }
     ensures { Staged 0 (canonical (topo_sort (network_of to.old c))) to.new result }
 {
-    let s = topo_sort(to, from, c);
-    match s {
-        Sorting::Looped => Stage::Refused(8),
-        Sorting::Ordered => Stage::Network(dedup(from, to, c, true)),
-    }
+    topo_sort(to, from, c)?;
+    Ok(dedup(from, to, c, true))
 }
 
 // One pass of factor_nary: the network in `from` into `to`, or 11 or 12.
-fn factor_gates(from: &mut [u32], to: &mut [u32], c: Counts, f: Family) -> Stage
+fn factor_gates(from: &mut [u32], to: &mut [u32], c: Counts, f: Family) -> Result<Counts, Refusal>
     requires { Workable from.old to.old c }
     ensures { Staged (pass_refusal f (network_of from.old c)) (factor_gates f (network_of from.old c)) to.new result }
 {
-    let s = stage_of_pass(factor_pass(from, to, c, f));
-    match s {
-        Stage::Refused(n) => Stage::Refused(n),
-        Stage::Network(g) => order(from, to, g),
-    }
+    let grown = factor_pass(from, to, c, f)?;
+    order(from, to, grown)
 }
 
 // factor_nary: the And pass, then the Xor pass; the network in `from` back into `from`, or 11 or 12.
-pub fn factor_nary(from: &mut [u32], to: &mut [u32], c: Counts) -> Stage
+pub fn factor_nary(from: &mut [u32], to: &mut [u32], c: Counts) -> Result<Counts, Refusal>
     requires { Workable from.old to.old c }
     ensures { Staged (factor_refusal (network_of from.old c)) (factor_nary (network_of from.old c)) from.new result }
 {
-    let s = factor_gates(from, to, c, Family::And);
-    match s {
-        Stage::Refused(n) => Stage::Refused(n),
-        Stage::Network(d) => factor_gates(to, from, d, Family::Xor),
-    }
+    let shared = factor_gates(from, to, c, Family::And)?;
+    factor_gates(to, from, shared, Family::Xor)
 }

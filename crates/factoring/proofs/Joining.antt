@@ -106,9 +106,6 @@ module _ (l m : List ℕ) (f v h j : ℕ) (inv : Paired l m f v h j) where
     pub pairs_two : area_size ≤ length l → (area_size ≤ length m) × (f + 2 * j + 1 < 2048) × (v + j < 512)
     pairs_two z = (rw inv.same z, omega (arith, small), omega (arith, nodes))
 
-    pub pairs_count : Fits w64 (j + 1)
-    pairs_count = record { fits = omega (arith, nodes) }
-
     even : length (front l f (2 * j)) ≡ 2 * j
     even = length_front l f (2 * j)
 

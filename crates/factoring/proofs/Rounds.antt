@@ -15,8 +15,7 @@ use Rattle.factoring.proofs.Turns.{Walked, all_end, all_full, all_grows, all_nex
 use Rattle.laws.proofs.Tabs.{length_tab}
 use Rattle.pairs.proofs.Gates.{get_or_lists, length_list}
 use Rattle.shape.proofs.FactoringEnds.{left_lt, lists_round, rounds_go, rounds_stop, rounds_zero}
-use Rattle.factoring.specs.declared.greedy.Built.{Built}
-use Rattle.factoring.specs.declared.greedy.Built.TheVariants.{To, Full}
+use Rattle.std.specs.Prelude.{Option, Some, None}
 
 gate_round : (s : State) (i : ℕ) → i < length s.lists → 1 < length (get_or s.lists i []) → length (get_or (join_round s i).lists i []) < length (get_or s.lists i [])
 unfolding join_round
@@ -93,14 +92,14 @@ module _ (l₀ l : List ℕ) (g n k room i t : ℕ) (inv : Rounded l₀ l g n k 
   len : length (get_or (state_of l g n t).lists i []) ≡ left_at l i
   len = rw (gate_state l g n t i inv.below) (length_list l i)
 
-  pub round_end : x ≤ 1 → Went l₀ l g n room (To t) (join_gate (state_of l₀ g n k) i)
+  pub round_end : x ≤ 1 → Went l₀ l g n room (Some t) (join_gate (state_of l₀ g n k) i)
   round_end q = went_here l₀ l g n t room _ inv.placed inv.ready.more (sym (gate_end (state_of l g n t) i (omega (arith, len))) ∙ inv.rest)
 
   module _ (more : 1 < x) where
     round_rest : join_gate (join_round (state_of l g n t) i) i ≡ join_gate (state_of l₀ g n k) i
     round_rest = sym (gate_go (state_of l g n t) i (rw lists_state inv.below) (omega (arith, len))) ∙ inv.rest
 
-    pub round_full : room - t < x / 2 → Went l₀ l g n room Full (join_gate (state_of l₀ g n k) i)
+    pub round_full : room - t < x / 2 → Went l₀ l g n room None (join_gate (state_of l₀ g n k) i)
     round_full q =
         let a = built_gate (join_round (state_of l g n t) i) i in
         let b = built_round (state_of l g n t) i in
@@ -143,12 +142,12 @@ pub gates_start : (l : List ℕ) (g n k room : ℕ) → Ready l g n k room → W
 gates_start = all_start join_gate join_gates gates_zero gates_suc built_gate
 
 module _ (l₀ l : List ℕ) (g n k room m i : ℕ) (inv : Walked join_gates l₀ l g n k room m i) where
-  module _ (o : List ℕ) (r : Built) (w : Went l o g n room r (join_gate (state_of l g n m) i)) (v : i < g) where
-    pub gates_next : (t : ℕ) → r ≡ To t → length o ≡ length l → Walked join_gates l₀ o g n k room t (i + 1)
+  module _ (o : List ℕ) (r : Option ℕ) (w : Went l o g n room r (join_gate (state_of l g n m) i)) (v : i < g) where
+    pub gates_next : (t : ℕ) → r ≡ Some t → length o ≡ length l → Walked join_gates l₀ o g n k room t (i + 1)
     gates_next = all_next join_gate join_gates gates_zero gates_suc built_gate l₀ l g n k room m i inv o r w v
 
-    pub gates_full : r ≡ Full → Went l₀ o g n room Full (join_gates (state_of l₀ g n k) g)
+    pub gates_full : r ≡ None → Went l₀ o g n room None (join_gates (state_of l₀ g n k) g)
     gates_full = all_full join_gate join_gates gates_zero gates_suc built_gate l₀ l g n k room m i inv o r w v
 
-  pub gates_end : g ≤ i → Went l₀ l g n room (To m) (join_gates (state_of l₀ g n k) g)
+  pub gates_end : g ≤ i → Went l₀ l g n room (Some m) (join_gates (state_of l₀ g n k) g)
   gates_end = all_end join_gate join_gates gates_zero gates_suc built_gate l₀ l g n k room m i inv

@@ -22,10 +22,7 @@ use Rattle.laws.proofs.Choices.{by_bool}
 use Rattle.laws.proofs.Tabs.{get_or_tab, length_tab}
 use Rattle.pairs.proofs.Gates.{length_list}
 use Rattle.shape.proofs.FactoringFuel.{all_pairs_none, all_pairs_some, built_all_pairs}
-use Rattle.factoring.specs.declared.greedy.Built.{Built}
-use Rattle.factoring.specs.declared.greedy.Built.TheVariants.{To, Full}
-use Rattle.best_pair.specs.declared.Best.{Best}
-use Rattle.best_pair.specs.declared.Best.TheVariants.{Found, None}
+use Rattle.std.specs.Prelude.{Option, Some, None}
 
 pub length_built : (l : List ℕ) (g n k : ℕ) → length (state_of l g n k).built ≡ k
 unfolding state_of
@@ -39,6 +36,10 @@ placed_here l g h = record { laid = h; starts = λ i k. refl }
 pub placed_on : (l m o : List ℕ) (g : ℕ) → Placed l m g → Placed m o g → Placed l o g
 placed_on l m o g a b = record { laid = b.laid; starts = λ i k. b.starts i k ∙ a.starts i k }
 
+-- what the sizes of a pass and its lists give
+pub ready_of : (l : List ℕ) (g n k room : ℕ) → g ≤ n → n + room ≤ 512 → Laid l g → k ≤ room → Ready l g n k room
+ready_of l g n k room a b h m = record { laid = h; old = a; nodes = b; more = m }
+
 -- room for one more node
 pub ready_one : (l : List ℕ) (g n k room : ℕ) → Ready l g n k room → k < room → Ready l g n k (k + 1)
 ready_one l g n k room h q = record { laid = h.laid; old = h.old; nodes = omega (arith, h.nodes); more = omega arith }
@@ -46,24 +47,24 @@ ready_one l g n k room h q = record { laid = h.laid; old = h.old; nodes = omega 
 -- ---- what a step answers
 
 -- the words hold the state, and there is room
-pub went_here : (l m : List ℕ) (g n k room : ℕ) (s : State) → Placed l m g → k ≤ room → state_of m g n k ≡ s → Went l m g n room (To k) s
+pub went_here : (l m : List ℕ) (g n k room : ℕ) (s : State) → Placed l m g → k ≤ room → state_of m g n k ≡ s → Went l m g n room (Some k) s
 unfolding fitted
 went_here l m g n k room s h r e =
     let q : length s.built ≡ k = rw (← e) (length_built m g n k) in
     record { answer = rw (q, le-leb k room r); held = λ _. (h, rw q e) }
 
 -- there is no room
-pub went_full : (l m : List ℕ) (g n room : ℕ) (s : State) → room < length s.built → Went l m g n room Full s
+pub went_full : (l m : List ℕ) (g n room : ℕ) (s : State) → room < length s.built → Went l m g n room None s
 unfolding fitted
 went_full l m g n room s h = record { answer = rw (lt-leb (length s.built) room h); held = λ q. absurd (omega arith) }
 
-module _ (l m : List ℕ) (g n room : ℕ) (r : Built) (s : State) (w : Went l m g n room r s) where
-  went_cases : (b : Bool) → leb (length s.built) room ≡ b → (t : ℕ) → r ≡ To t → (length s.built ≤ room) × (t ≡ length s.built)
+module _ (l m : List ℕ) (g n room : ℕ) (r : Option ℕ) (s : State) (w : Went l m g n room r s) where
+  went_cases : (b : Bool) → leb (length s.built) room ≡ b → (t : ℕ) → r ≡ Some t → (length s.built ≤ room) × (t ≡ length s.built)
   unfolding fitted
-  went_cases true e t q = (leb-true _ _ e, (let z = w.answer in let x : To (length s.built) ≡ To t = rw e at (sym z ∙ q) in cc))
-  went_cases false e t q = let z = w.answer in let x : Full ≡ To t = rw e at (sym z ∙ q) in let y : ◌≡◌ {A = ℕ} 0 1 = cc in absurd (omega arith)
+  went_cases true e t q = (leb-true _ _ e, (let z = w.answer in let x : Some (length s.built) ≡ Some t = rw e at (sym z ∙ q) in cc))
+  went_cases false e t q = let z = w.answer in let x : None ≡ Some t = rw e at (sym z ∙ q) in let y : ◌≡◌ {A = ℕ} 0 1 = cc in absurd (omega arith)
 
-  module _ (t : ℕ) (e : r ≡ To t) where
+  module _ (t : ℕ) (e : r ≡ Some t) where
     pub went_le : t ≤ room
     went_le = let q = went_cases (leb (length s.built) room) refl t e in omega arith
 
@@ -73,12 +74,12 @@ module _ (l m : List ℕ) (g n room : ℕ) (r : Built) (s : State) (w : Went l m
     pub went_state : state_of m g n t ≡ s
     went_state = let q = went_cases (leb (length s.built) room) refl t e in rw q.1 (w.held q.0).1
 
-  pub went_over : r ≡ Full → room < length s.built
+  pub went_over : r ≡ None → room < length s.built
   unfolding fitted
   went_over q = go (leb (length s.built) room) refl
     where
       go : (b : Bool) → leb (length s.built) room ≡ b → room < length s.built
-      go true e = let z = w.answer in let x : To (length s.built) ≡ Full = rw e at (sym z ∙ q) in let y : ◌≡◌ {A = ℕ} 0 1 = cc in absurd (omega arith)
+      go true e = let z = w.answer in let x : Some (length s.built) ≡ None = rw e at (sym z ∙ q) in let y : ◌≡◌ {A = ℕ} 0 1 = cc in absurd (omega arith)
       go false e = leb-false _ _ e
 
 -- fewer lists ask less
@@ -96,7 +97,7 @@ ready_fewer l g h n k room e r =
       more = r.more;
     }
 
-pub ready_next : (l m : List ℕ) (g n k room t : ℕ) (r : Built) (s : State) → Ready l g n k room → Went l m g n room r s → r ≡ To t → Ready m g n t room
+pub ready_next : (l m : List ℕ) (g n k room t : ℕ) (r : Option ℕ) (s : State) → Ready l g n k room → Went l m g n room r s → r ≡ Some t → Ready m g n t room
 ready_next l m g n k room t r s h w e = record { laid = (went_placed l m g n room r s w t e).laid; old = h.old; nodes = h.nodes; more = went_le l m g n room r s w t e }
 
 -- ---- gate after gate, for any step that only adds pairs
@@ -108,9 +109,6 @@ pub record Walked (all : State → ℕ → State) (l₀ l : List ℕ) (g n k roo
   pub ready : Ready l g n m room
   pub placed : Placed l₀ l g
   pub state : state_of l g n m ≡ all (state_of l₀ g n k) i
-
-pub turn_count : {all : State → ℕ → State} (l₀ l : List ℕ) (g n k room m i : ℕ) → Walked all l₀ l g n k room m i → i < g → Fits w64 (i + 1)
-turn_count l₀ l g n k room m i inv h = record { fits = omega (arith, inv.ready.laid.few) }
 
 module _ (step all : State → ℕ → State) (at_zero : (s : State) → all s 0 ≡ s) (at_suc : (s : State) (i : ℕ) → all s (suc i) ≡ step (all s i) i)
     (grows : (s : State) (i : ℕ) → length s.built ≤ length (step s i).built) where
@@ -130,11 +128,11 @@ module _ (step all : State → ℕ → State) (at_zero : (s : State) → all s 0
   all_start l g n k room h = record { upto = omega arith; same = refl; ready = h; placed = placed_here l g h.laid; state = sym (at_zero _) }
 
   module _ (l₀ l : List ℕ) (g n k room m i : ℕ) (inv : Walked all l₀ l g n k room m i) where
-    module _ (o : List ℕ) (r : Built) (w : Went l o g n room r (step (state_of l g n m) i)) (v : i < g) where
+    module _ (o : List ℕ) (r : Option ℕ) (w : Went l o g n room r (step (state_of l g n m) i)) (v : i < g) where
       next : step (state_of l g n m) i ≡ all (state_of l₀ g n k) (suc i)
       next = rw inv.state (sym (at_suc (state_of l₀ g n k) i))
 
-      pub all_next : (t : ℕ) → r ≡ To t → length o ≡ length l → Walked all l₀ o g n k room t (i + 1)
+      pub all_next : (t : ℕ) → r ≡ Some t → length o ≡ length l → Walked all l₀ o g n k room t (i + 1)
       all_next t e z = record {
         upto = omega arith;
         same = z ∙ inv.same;
@@ -143,7 +141,7 @@ module _ (step all : State → ℕ → State) (at_zero : (s : State) → all s 0
         state = rw (add-one i) (went_state l o g n room r _ w t e ∙ next);
       }
 
-      pub all_full : r ≡ Full → Went l₀ o g n room Full (all (state_of l₀ g n k) g)
+      pub all_full : r ≡ None → Went l₀ o g n room None (all (state_of l₀ g n k) g)
       all_full e =
           let s = state_of l₀ g n k in
           let a = went_over l o g n room r _ w e in
@@ -152,7 +150,7 @@ module _ (step all : State → ℕ → State) (at_zero : (s : State) → all s 0
           let u : length (all s (suc i)).built ≤ length (all s g).built = rw (sym d) at (more s (g - suc i) (suc i)) in
           went_full l₀ o g n room (all s g) (omega arith)
 
-    pub all_end : g ≤ i → Went l₀ l g n room (To m) (all (state_of l₀ g n k) g)
+    pub all_end : g ≤ i → Went l₀ l g n room (Some m) (all (state_of l₀ g n k) g)
     all_end b =
         let a = inv.upto in
         let e : i ≡ g = omega arith in
@@ -176,12 +174,6 @@ built_binary s i = built_two s (get_or s.lists i [])
 
 -- ---- consume_at
 
-pub both_min : (l m : List ℕ) (g n k a b : ℕ) → a < b → Replaced l m g n k a b → Replaced l m g n k (min a b) (max a b)
-both_min l m g n k a b h r = let p : min a b ≡ a = omega arith in let q : max a b ≡ b = omega arith in rw (p, q) r
-
-pub both_max : (l m : List ℕ) (g n k a b : ℕ) → b ≤ a → Replaced l m g n k b a → Replaced l m g n k (min a b) (max a b)
-both_max l m g n k a b h r = let p : min a b ≡ b = omega arith in let q : max a b ≡ a = omega arith in rw (p, q) r
-
 get_or_state : (l : List ℕ) (g n k i : ℕ) → i < g → get_or (state_of l g n k).lists i [] ≡ list_at l i
 unfolding state_of lists_of
 get_or_state l g n k i h = get_or_tab (list_at l) g i [] h
@@ -199,7 +191,7 @@ pub at_count : (l : List ℕ) (g n k room : ℕ) → Ready l g n k room → k < 
 at_count l g n k room h q = record { fits = omega (arith, h.nodes) }
 
 module _ (l : List ℕ) (g n k room i : ℕ) (h : Ready l g n k room) (v : i < g) (x : ℕ) (ex : x ≡ left_at l i) where
-  pub at_stay : x ≢ 2 → Went l l g n room (To k) (binary_at (state_of l g n k) i)
+  pub at_stay : x ≢ 2 → Went l l g n room (Some k) (binary_at (state_of l g n k) i)
   unfolding binary_at
   at_stay d =
       went_here l l g n k room _ (placed_here l g h.laid) h.more
@@ -224,13 +216,13 @@ module _ (l : List ℕ) (g n k room i : ℕ) (h : Ready l g n k room) (v : i < g
       pub at_fits : Fits w64 (f + 1)
       at_fits = record { fits = omega (arith, h.laid.ends i v) }
 
-    pub at_full : room ≤ k → Went l l g n room Full (binary_at (state_of l g n k) i)
+    pub at_full : room ≤ k → Went l l g n room None (binary_at (state_of l g n k) i)
     at_full r =
         went_full l l g n room _
         (rw at_two (omega (arith, built_replace (state_of l g n k) (min (sig_at l (start_at l i)) (sig_at l (start_at l i + 1))) (max (sig_at l (start_at l i)) (sig_at l (start_at l i + 1))), length_built l g n k)))
 
     pub at_done : (f a b : ℕ) (m : List ℕ) → k < room → f ≡ start_at l i → a ≡ sig_at l f → b ≡ sig_at l (f + 1) → Replaced l m g n k (min a b) (max a b)
-        → Went l m g n room (To (k + 1)) (binary_at (state_of l g n k) i)
+        → Went l m g n room (Some (k + 1)) (binary_at (state_of l g n k) i)
     at_done f a b m r ef ea eb p =
         went_here l m g n (k + 1) room _ p.placed (omega arith)
         (p.state ∙ rw at_two (rw (ea, eb, ef)))
@@ -252,22 +244,22 @@ pub twos_start : (l : List ℕ) (g n k room : ℕ) → Ready l g n k room → Wa
 twos_start = all_start binary_at binaries twos_zero twos_suc built_binary
 
 module _ (l₀ l : List ℕ) (g n k room m i : ℕ) (inv : Walked binaries l₀ l g n k room m i) where
-  module _ (o : List ℕ) (r : Built) (w : Went l o g n room r (binary_at (state_of l g n m) i)) (v : i < g) where
-    pub twos_next : (t : ℕ) → r ≡ To t → length o ≡ length l → Walked binaries l₀ o g n k room t (i + 1)
+  module _ (o : List ℕ) (r : Option ℕ) (w : Went l o g n room r (binary_at (state_of l g n m) i)) (v : i < g) where
+    pub twos_next : (t : ℕ) → r ≡ Some t → length o ≡ length l → Walked binaries l₀ o g n k room t (i + 1)
     twos_next = all_next binary_at binaries twos_zero twos_suc built_binary l₀ l g n k room m i inv o r w v
 
-    pub twos_full : r ≡ Full → Went l₀ o g n room Full (binaries (state_of l₀ g n k) g)
+    pub twos_full : r ≡ None → Went l₀ o g n room None (binaries (state_of l₀ g n k) g)
     twos_full = all_full binary_at binaries twos_zero twos_suc built_binary l₀ l g n k room m i inv o r w v
 
-  pub twos_end : g ≤ i → Went l₀ l g n room (To m) (binaries (state_of l₀ g n k) g)
+  pub twos_end : g ≤ i → Went l₀ l g n room (Some m) (binaries (state_of l₀ g n k) g)
   twos_end = all_end binary_at binaries twos_zero twos_suc built_binary l₀ l g n k room m i inv
 
-module _ (l m : List ℕ) (g n k room : ℕ) (r : Built) (w : Went l m g n room r (binaries (state_of l g n k) g)) where
-  pub gates_full : r ≡ Full → Went l m g n room Full (consume_binary_gates (state_of l g n k) g)
+module _ (l m : List ℕ) (g n k room : ℕ) (r : Option ℕ) (w : Went l m g n room r (binaries (state_of l g n k) g)) where
+  pub gates_full : r ≡ None → Went l m g n room None (consume_binary_gates (state_of l g n k) g)
   unfolding consume_binary_gates
   gates_full e = went_full l m g n room _ (omega (arith, went_over l m g n room r _ w e, built_twos (binaries (state_of l g n k) g) g))
 
-  pub gates_done : (t : ℕ) → r ≡ To t → (o : List ℕ) (q : Built) → Went m o g n room q (binaries (state_of m g n t) g) → Went l o g n room q (consume_binary_gates (state_of l g n k) g)
+  pub gates_done : (t : ℕ) → r ≡ Some t → (o : List ℕ) (q : Option ℕ) → Went m o g n room q (binaries (state_of m g n t) g) → Went l o g n room q (consume_binary_gates (state_of l g n k) g)
   unfolding consume_binary_gates
   gates_done t e o q x =
       let y : Went m o g n room q (binaries (binaries (state_of l g n k) g) g) = rw (← (went_state l m g n room r _ w t e)) x in
@@ -275,16 +267,24 @@ module _ (l m : List ℕ) (g n k room : ℕ) (r : Built) (w : Went l m g n room 
 
 -- ---- consume_pairs
 
-best_some : (t : Top) (a b : ℕ) → Found a b ≡ best_of t → (t.count ≢ 0) × (t.a ≡ a) × (t.b ≡ b)
+abbrev first_in : Option (ℕ × ℕ) → ℕ
+first_in None = 0
+first_in (Some p) = p.0
+
+abbrev second_in : Option (ℕ × ℕ) → ℕ
+second_in None = 0
+second_in (Some p) = p.1
+
+best_some : (t : Top) (a b : ℕ) → Some (a, b) ≡ best_of t → (t.count ≢ 0) × (t.a ≡ a) × (t.b ≡ b)
 unfolding best_of
 best_some t a b e = by_bool (eqb t.count 0)
-    (λ q. let x : Found a b ≡ None = rw q at e in let y : ◌≡◌ {A = ℕ} 0 1 = cc in absurd (omega arith))
-    (λ q. let x : Found a b ≡ Found t.a t.b = rw q at e in (eqb-false _ _ q, (cc), (cc)))
+    (λ q. let x : Some (a, b) ≡ None = rw q at e in let y : ◌≡◌ {A = ℕ} 0 1 = cc in absurd (omega arith))
+    (λ q. let x : Some (a, b) ≡ Some (t.a, t.b) = rw q at e in (eqb-false _ _ q, sym (ap first_in x), sym (ap second_in x)))
 
 best_none : (t : Top) → None ≡ best_of t → t.count ≡ 0
 unfolding best_of
 best_none t e = by_bool (eqb t.count 0) (λ q. eqb-true _ _ q)
-    (λ q. let x : None ≡ Found t.a t.b = rw q at e in let y : ◌≡◌ {A = ℕ} 0 1 = cc in absurd (omega arith))
+    (λ q. let x : None ≡ Some (t.a, t.b) = rw q at e in let y : ◌≡◌ {A = ℕ} 0 1 = cc in absurd (omega arith))
 
 -- what holds when a pair is looked for
 pub record Greedy (l₀ l : List ℕ) (g n k room m : ℕ) : Type 0 where
@@ -296,21 +296,21 @@ pub record Greedy (l₀ l : List ℕ) (g n k room m : ℕ) : Type 0 where
 pub pairs_start : (l : List ℕ) (g n k room : ℕ) → Ready l g n k room → Greedy l l g n k room k
 pairs_start l g n k room h = record { same = refl; ready = h; placed = placed_here l g h.laid; rest = refl }
 
-module _ (l₀ l : List ℕ) (g n k room m : ℕ) (inv : Greedy l₀ l g n k room m) (r : Best) (er : r ≡ best_of (find_best_pair (lists_of l g))) where
-  pub pairs_end : r ≡ None → Went l₀ l g n room (To m) (all_pairs (state_of l₀ g n k))
+module _ (l₀ l : List ℕ) (g n k room m : ℕ) (inv : Greedy l₀ l g n k room m) (r : Option (ℕ × ℕ)) (er : r ≡ best_of (find_best_pair (lists_of l g))) where
+  pub pairs_end : r ≡ None → Went l₀ l g n room (Some m) (all_pairs (state_of l₀ g n k))
   unfolding state_of
   pairs_end e =
       went_here l₀ l g n m room _ inv.placed inv.ready.more
       (sym (all_pairs_none (state_of l g n m) (best_none (find_best_pair (lists_of l g)) (sym e ∙ er))) ∙ inv.rest)
 
-  module _ (a b : ℕ) (e : r ≡ Found a b) where
+  module _ (a b : ℕ) (e : r ≡ Some (a, b)) where
     pairs_rest : all_pairs (replace_pair (state_of l g n m) a b) ≡ all_pairs (state_of l₀ g n k)
     unfolding state_of
     pairs_rest =
         let q = best_some (find_best_pair (lists_of l g)) a b (sym e ∙ er) in
         sym (all_pairs_some (state_of l g n m) q.0 ∙ rw (q.1, q.2)) ∙ inv.rest
 
-    pub pairs_full : room ≤ m → Went l₀ l g n room Full (all_pairs (state_of l₀ g n k))
+    pub pairs_full : room ≤ m → Went l₀ l g n room None (all_pairs (state_of l₀ g n k))
     pairs_full x =
         went_full l₀ l g n room _
         (rw (← pairs_rest) (omega (arith, built_all_pairs (replace_pair (state_of l g n m) a b), built_replace (state_of l g n m) a b, length_built l g n m)))

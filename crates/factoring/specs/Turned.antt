@@ -1,22 +1,20 @@
--- What the steps of a pass answer, and what they leave in the words. `Built` is the enum of src/greedy.rt.
-use Rattle.std.specs.Prelude.{suc, ℕ, ◌*◌, ◌+◌, ◌/◌, ◌≤◌, ◌≡◌, cond, List, [], ◌∷◌, get_or, length, eqb, leb}
+-- What the steps of a pass answer, and what they leave in the words.
+use Rattle.std.specs.Prelude.{suc, ℕ, ◌*◌, ◌+◌, ◌/◌, ◌≤◌, ◌≡◌, cond, List, [], ◌∷◌, get_or, length, eqb, leb, Option, Some, None}
 use Rattle.model.specs.Sharing.{Pair, State, join_round, on_two, round_left, round_pairs}
 use Rattle.model.specs.Signal.{from_var}
 use Rattle.pairs.specs.Lists.{front, left_at, put_list, put_pair, put_sig, sig_at}
 use Rattle.pairs.specs.States.{Placed, state_of}
-use Rattle.factoring.specs.declared.greedy.Built.{Built}
-use Rattle.factoring.specs.declared.greedy.Built.TheVariants.{To, Full}
 
 -- the step of consume_binary_gates at gate i
 unfoldable pub binary_at : State → ℕ → State
 binary_at s i = on_two s (get_or s.lists i [])
 
 -- so many new nodes, if they have room
-unfoldable pub fitted : ℕ → State → Built
-fitted room s = cond (leb (length s.built) room) (To (length s.built)) Full
+unfoldable pub fitted : ℕ → State → Option ℕ
+fitted room s = cond (leb (length s.built) room) (Some (length s.built)) None
 
 -- from l, m holds the state s of the unlimited pass, where that has room
-pub record Went (l m : List ℕ) (g n room : ℕ) (r : Built) (s : State) : Type 0 where
+pub record Went (l m : List ℕ) (g n room : ℕ) (r : Option ℕ) (s : State) : Type 0 where
   pub answer : r ≡ fitted room s
   pub held : length s.built ≤ room → Placed l m g × (state_of m g n (length s.built) ≡ s)
 

@@ -1,11 +1,11 @@
 // finalize: what is left of each gate joined two by two, in rounds, until one signal is left.
 ghost use Rattle.std.specs.Prelude.{◌≡◌, ◌+◌, ◌*◌, ◌/◌, ◌<◌, ◌≤◌, length};
 ghost use Rattle.model.specs.Sharing.{join_gate, join_gates};
-ghost use Rattle.pairs.specs.Lists.{area_size, left_at};
+ghost use Rattle.pairs.specs.Lists.{area_size, left_at, Laid};
 ghost use Rattle.pairs.specs.States.{state_of, Ready};
 ghost use Rattle.factoring.specs.Turned.{joined_at, joined_to, carried, Went, Joined};
 
-use crate::greedy::Built;
+use crate::Factoring;
 use pairs::lists::{left_at, node_word, put_left, put_pair, put_sig, sig_at, start_at};
 
 // Joins the two signals 2 j and 2 j + 1 from place f on: new node v + j, at place f + j.
@@ -26,10 +26,8 @@ fn join_pairs(area: &mut [u32], f: usize, v: usize, h: usize)
     requires { (area_size ≤ length area.old) × (f + 2 * h ≤ 2048) × (v + h ≤ 512) }
     ensures { area.new ≡ joined_to area.old f v h }
 {
-    let mut j: usize = 0;
-    while j < h {
+    for j in 0..h {
         join_two(area, f, v, j);
-        j += 1;
     }
 }
 
@@ -46,52 +44,51 @@ fn carry(area: &mut [u32], f: usize, m: usize, h: usize)
     put_sig(area, f + h, s);
 }
 
-// One round over gate i; how many new nodes there are.
-fn join_round(area: &mut [u32], g: usize, n: usize, k: usize, i: usize) -> usize
-    requires { Ready area.old g n k (k + left_at area.old i / 2) × (i < g) }
-    ensures { Joined area.old area.new g n k i result }
-{
-    let f = start_at(area, i);
-    let m = left_at(area, i);
-    let h = m / 2;
-    join_pairs(area, f, n + k, h);
-    carry(area, f, m, h);
-    put_left(area, i, (m - h) as u32);
-    k + h
-}
-
-// Rounds until one signal is left in gate i.
-fn join_gate(area: &mut [u32], g: usize, n: usize, k: usize, room: usize, i: usize) -> Built
-    requires { Ready area.old g n k room × (i < g) }
-    ensures { Went area.old area.new g n room result (join_gate (state_of area.old g n k) i) }
-{
-    let mut t = k;
-    loop {
+impl Factoring {
+    // One round over gate i; how many new nodes there are.
+    fn join_round(self, area: &mut [u32], k: usize, i: usize) -> usize
+        requires { Ready area.old self.gates self.nodes k (k + left_at area.old i / 2) × (i < self.gates) }
+        ensures { Joined area.old area.new self.gates self.nodes k i result }
+    {
+        let f = start_at(area, i);
         let m = left_at(area, i);
-        if m <= 1 {
-            return Built::To(t);
-        }
-        if room - t < m / 2 {
-            return Built::Full;
-        }
-        t = join_round(area, g, n, t, i);
+        let h = m / 2;
+        join_pairs(area, f, self.nodes + k, h);
+        carry(area, f, m, h);
+        put_left(area, i, (m - h) as u32);
+        k + h
     }
-}
 
-// Gate after gate.
-pub fn join_gates(area: &mut [u32], g: usize, n: usize, k: usize, room: usize) -> Built
-    requires { Ready area.old g n k room }
-    ensures { Went area.old area.new g n room result (join_gates (state_of area.old g n k) g) }
-{
-    let mut m = k;
-    let mut i: usize = 0;
-    while i < g {
-        let r = join_gate(area, g, n, m, room, i);
-        let Built::To(t) = r else {
-            return Built::Full;
-        };
-        m = t;
-        i += 1;
+    // Rounds until one signal is left in gate i.
+    fn join_gate(self, area: &mut [u32], k: usize, i: usize) -> Option<usize>
+        requires laid { Laid area.old self.gates }
+        requires more { k ≤ self.room }
+        requires gate { i < self.gates }
+        ensures { Went area.old area.new self.gates self.nodes self.room result (join_gate (state_of area.old self.gates self.nodes k) i) }
+    {
+        let mut t = k;
+        loop {
+            let m = left_at(area, i);
+            if m <= 1 {
+                return Some(t);
+            }
+            if self.room - t < m / 2 {
+                return None;
+            }
+            t = self.join_round(area, t, i);
+        }
     }
-    Built::To(m)
+
+    // Gate after gate.
+    pub fn join_gates(self, area: &mut [u32], k: usize) -> Option<usize>
+        requires laid { Laid area.old self.gates }
+        requires more { k ≤ self.room }
+        ensures { Went area.old area.new self.gates self.nodes self.room result (join_gates (state_of area.old self.gates self.nodes k) self.gates) }
+    {
+        let mut m = k;
+        for i in 0..self.gates {
+            m = self.join_gate(area, m, i)?;
+        }
+        Some(m)
+    }
 }

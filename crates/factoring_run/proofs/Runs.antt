@@ -28,21 +28,18 @@ use Rattle.uses.proofs.Loads.{shared_of}
 use Rattle.uses.proofs.Walks.{between_same}
 use Rattle.kinds.specs.declared.Family.{Family}
 use Rattle.tables.specs.declared.counts.Counts.{Counts}
-use Rattle.factoring.specs.declared.greedy.Built.{Built}
-use Rattle.factoring.specs.declared.greedy.Built.TheVariants.{To, Full}
+use Rattle.std.specs.Prelude.{Option, Some, None}
 
 -- ---- share_pairs
 
-module _ (l m : List ℕ) (g n room : ℕ) (r : Built) (w : Went l m g n room r (consume_binary_gates (state_of l g n 0) g)) where
-  pub share_full : r ≡ Full → Went l m g n room Full (all_pairs (consume_binary_gates (state_of l g n 0) g))
+module _ (l m : List ℕ) (g n room : ℕ) (r : Option ℕ) (w : Went l m g n room r (consume_binary_gates (state_of l g n 0) g)) where
+  pub share_full : r ≡ None → Went l m g n room None (all_pairs (consume_binary_gates (state_of l g n 0) g))
   share_full e = went_full l m g n room _ (omega (arith, went_over l m g n room r _ w e, built_all_pairs (consume_binary_gates (state_of l g n 0) g)))
 
-  pub share_done : (k : ℕ) → r ≡ To k → (o : List ℕ) (q : Built) → Went m o g n room q (all_pairs (state_of m g n k)) → Went l o g n room q (all_pairs (consume_binary_gates (state_of l g n 0) g))
+  pub share_done : (k : ℕ) → r ≡ Some k → (o : List ℕ) (q : Option ℕ) → Went m o g n room q (all_pairs (state_of m g n k)) → Went l o g n room q (all_pairs (consume_binary_gates (state_of l g n 0) g))
   share_done k e o q x =
       let y : Went m o g n room q (all_pairs (consume_binary_gates (state_of l g n 0) g)) = rw (← (went_state l m g n room r _ w k e)) x in
       record { answer = y.answer; held = λ u. (placed_on l m o g (went_placed l m g n room r _ w k e) (y.held u).0, (y.held u).1) }
-
-pub ruleset shares = (ready_next, share_full, share_done)
 
 -- ---- finalize
 
@@ -98,7 +95,7 @@ module _ (gs : List (List ℕ)) (from l : List ℕ) (g n k room : ℕ) (H : Half
     pub final_ready : Ready o g n k room
     final_ready = record { laid = rw H.gates G.laid; old = H.ready.old; nodes = H.ready.nodes; more = H.ready.more }
 
-    pub final_done : (q : List ℕ) (r : Built) → Went o q g n room r (join_gates (state_of o g n k) g) → Finished gs q g n room r
+    pub final_done : (q : List ℕ) (r : Option ℕ) → Went o q g n room r (join_gates (state_of o g n k) g) → Finished gs q g n room r
     final_done q r w =
         let e : join_gates (state_of o g n k) g ≡ factoring gs n = rw (given_state, H.gates) (sym (factoring_parts gs n)) in
         let w' : Went o q g n room r (factoring gs n) = rw e at w in
@@ -108,11 +105,11 @@ pub ruleset finals = (final_givable, final_ready, final_done)
 
 -- ---- run
 
-module _ (gs : List (List ℕ)) (m : List ℕ) (g n room : ℕ) (r : Built) (F : Finished gs m g n room r) where
+module _ (gs : List (List ℕ)) (m : List ℕ) (g n room : ℕ) (r : Option ℕ) (F : Finished gs m g n room r) where
   finished_went : Went m m g n room r (factoring gs n)
   finished_went = record { answer = F.answer; held = λ u. (placed_here m g (F.held u).0, (F.held u).1) }
 
-  module _ (k : ℕ) (e : r ≡ To k) where
+  module _ (k : ℕ) (e : r ≡ Some k) where
     pub finished_le : k ≤ room
     finished_le = went_le m m g n room r (factoring gs n) finished_went k e
 
@@ -122,23 +119,23 @@ module _ (gs : List (List ℕ)) (m : List ℕ) (g n room : ℕ) (r : Built) (F :
     pub finished_state : state_of m g n k ≡ factoring gs n
     finished_state = went_state m m g n room r (factoring gs n) finished_went k e
 
-  pub finished_over : r ≡ Full → room < length (factoring gs n).built
+  pub finished_over : r ≡ None → room < length (factoring gs n).built
   finished_over e = went_over m m g n room r (factoring gs n) finished_went e
 
 built_given : (gs : List (List ℕ)) (n : ℕ) → length (paired gs n).built ≤ length (factoring gs n).built
 unfolding given
 built_given gs n = rw (factoring_parts gs n) (built_gates (given gs n) (length gs))
 
-module _ (gs : List (List ℕ)) (from l : List ℕ) (g n room : ℕ) (L : Loaded gs from l g n room) where
+module _ (gs : List (List ℕ)) (from l : List ℕ) (g n room : ℕ) (L : Loaded gs from l g n) (a : g ≤ n) (b : n + room ≤ 512) where
   begin : state_of l g n 0 ≡ record { lists = shared_signals gs; next = n; built = [] }
   unfolding state_of tab
   begin = state≡ L.lists.lists (add-zero n) refl
 
   pub run_ready : Ready l g n 0 room
-  run_ready = record { laid = L.lists.laid; old = L.old; nodes = L.nodes; more = omega arith }
+  run_ready = record { laid = L.lists.laid; old = a; nodes = b; more = omega arith }
 
-  module _ (m : List ℕ) (r : Built) (w : Went l m g n room r (all_pairs (consume_binary_gates (state_of l g n 0) g))) where
-    pub run_half : (k : ℕ) → r ≡ To k → length m ≡ length l → Halfway gs from m g n k room
+  module _ (m : List ℕ) (r : Option ℕ) (w : Went l m g n room r (all_pairs (consume_binary_gates (state_of l g n 0) g))) where
+    pub run_half : (k : ℕ) → r ≡ Some k → length m ≡ length l → Halfway gs from m g n k room
     run_half k e len = record {
       between = between_same from l m n L.between len;
       gates = L.lists.gates;
@@ -147,7 +144,7 @@ module _ (gs : List (List ℕ)) (from l : List ℕ) (g n room : ℕ) (L : Loaded
       state = went_state l m g n room r _ w k e ∙ rw begin;
     }
 
-    pub run_full : r ≡ Full → Finished gs m g n room Full
+    pub run_full : r ≡ None → Finished gs m g n room None
     unfolding fitted
     run_full e =
         let a = went_over l m g n room r _ w e in
@@ -155,8 +152,6 @@ module _ (gs : List (List ℕ)) (from l : List ℕ) (g n room : ℕ) (L : Loaded
         let b : room < length (paired gs n).built = rw p at a in
         let q : room < length (factoring gs n).built = omega (arith, built_given gs n) in
         record { answer = rw (lt-leb (length (factoring gs n).built) room q); held = λ u. absurd (omega arith) }
-
-pub ruleset runs = (run_ready, run_half, run_full)
 
 -- ---- load_lists
 

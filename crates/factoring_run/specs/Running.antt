@@ -1,21 +1,18 @@
 -- What the steps of Factoring::run ask and leave, over the lists of a network's gates.
-use Rattle.std.specs.Prelude.{ℕ, ◌+◌, ◌<◌, ◌≤◌, ◌≡◌, List, [], length}
+use Rattle.std.specs.Prelude.{ℕ, ◌<◌, ◌≤◌, ◌≡◌, Option, List, [], length}
 use Rattle.factoring.specs.Turned.{fitted}
 use Rattle.model.specs.Sharing.{all_pairs, consume_binary_gates, factoring, shared_signals}
 use Rattle.pairs.specs.Lists.{Laid, area_size, start_at}
 use Rattle.pairs.specs.States.{Ready, state_of}
 use Rattle.tables.specs.Holding.{Held}
 use Rattle.uses.specs.Loading.{Between, Separated, lists_in, slot}
-use Rattle.factoring.specs.declared.greedy.Built.{Built}
 use Rattle.kinds.specs.declared.Family.{Family}
 use Rattle.tables.specs.declared.counts.Counts.{Counts}
 
 -- the lists of gs, without what was set aside
-pub record Loaded (gs : List (List ℕ)) (from l : List ℕ) (g n room : ℕ) : Type 0 where
+pub record Loaded (gs : List (List ℕ)) (from l : List ℕ) (g n : ℕ) : Type 0 where
   pub between : Between from l n
   pub lists : Separated gs l g
-  pub old : g ≤ n
-  pub nodes : n + room ≤ 512
 
 -- the pairs are built, k of them
 pub record Halfway (gs : List (List ℕ)) (from l : List ℕ) (g n k room : ℕ) : Type 0 where
@@ -26,7 +23,7 @@ pub record Halfway (gs : List (List ℕ)) (from l : List ℕ) (g n k room : ℕ)
   pub state : state_of l g n k ≡ all_pairs (consume_binary_gates (record { lists = shared_signals gs; next = n; built = [] }) g)
 
 -- m holds the end of the pass, where that has room
-pub record Finished (gs : List (List ℕ)) (m : List ℕ) (g n room : ℕ) (r : Built) : Type 0 where
+pub record Finished (gs : List (List ℕ)) (m : List ℕ) (g n room : ℕ) (r : Option ℕ) : Type 0 where
   pub answer : r ≡ fitted room (factoring gs n)
   pub held : length (factoring gs n).built ≤ room → Laid m g × (state_of m g n (length (factoring gs n).built) ≡ factoring gs n)
 

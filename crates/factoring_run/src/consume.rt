@@ -1,18 +1,18 @@
 // share_logic.rs, Factoring: consume_binary_gates.
+ghost use Rattle.std.specs.Prelude.{◌≤◌};
 ghost use Rattle.model.specs.Sharing.{consume_binary_gates};
-ghost use Rattle.pairs.specs.States.{state_of, Ready};
+ghost use Rattle.pairs.specs.Lists.{Laid};
+ghost use Rattle.pairs.specs.States.{state_of};
 ghost use Rattle.factoring.specs.Turned.{Went};
 
-use factoring::greedy::{Built, consume_twos};
+use factoring::Factoring;
 
 // Two passes, in case the first gives new gates with two left.
-pub fn consume_binary_gates(area: &mut [u32], g: usize, n: usize, k: usize, room: usize) -> Built
-    requires { Ready area.old g n k room }
-    ensures { Went area.old area.new g n room result (consume_binary_gates (state_of area.old g n k) g) }
+pub fn consume_binary_gates(p: Factoring, area: &mut [u32], k: usize) -> Option<usize>
+    requires laid { Laid area.old p.gates }
+    requires more { k ≤ p.room }
+    ensures { Went area.old area.new p.gates p.nodes p.room result (consume_binary_gates (state_of area.old p.gates p.nodes k) p.gates) }
 {
-    let r = consume_twos(area, g, n, k, room);
-    let Built::To(t) = r else {
-        return Built::Full;
-    };
-    consume_twos(area, g, n, t, room)
+    let t = p.consume_twos(area, k)?;
+    p.consume_twos(area, t)
 }

@@ -1,15 +1,15 @@
 // share_logic.rs, Factoring::run over the gates of a network: their lists loaded, the pairs shared, what was set aside given back, the joins.
 #![tactic(auto)]
 
-ghost use Rattle.pairs.specs.States.{state_of, Ready};
+ghost use Rattle.pairs.specs.Lists.{Laid};
+ghost use Rattle.pairs.specs.States.{state_of};
 ghost use Rattle.model.specs.Sharing.{consume_binary_gates, all_pairs};
 ghost use Rattle.uses.specs.Loading.{lists_in};
 ghost use Rattle.factoring.specs.Turned.{Went};
 ghost use Rattle.factoring_run.specs.Running.{Halfway, Finished, Loaded, Asked, Sharable};
 
 use crate::consume::consume_binary_gates;
-use factoring::greedy::{Built, consume_pairs};
-use factoring::join::join_gates;
+use factoring::Factoring;
 use give_back::give_back;
 use kinds::Family;
 use tables::counts::Counts;
@@ -19,45 +19,31 @@ use uses::load::separate_exclusive_signals;
 mod consume;
 
 // consume_pairs: while a pair remains.
-fn share_pairs(to: &mut [u32], g: usize, n: usize, room: usize) -> Built
-    requires { Ready to.old g n 0 room }
-    ensures { Went to.old to.new g n room result (all_pairs (consume_binary_gates (state_of to.old g n 0) g)) }
+fn share_pairs(p: Factoring, to: &mut [u32]) -> Option<usize>
+    requires { Laid to.old p.gates }
+    ensures { Went to.old to.new p.gates p.nodes p.room result (all_pairs (consume_binary_gates (state_of to.old p.gates p.nodes 0) p.gates)) }
 {
-    let r = consume_binary_gates(to, g, n, 0, room);
-    match r {
-        Built::To(k) => consume_pairs(to, g, n, k, room),
-        Built::Full => Built::Full,
-    }
+    let k = consume_binary_gates(p, to, 0)?;
+    p.consume_pairs(to, k)
 }
 
 // finalize: what was set aside given back, then the joins.
-fn finalize(
-    from: &[u32],
-    to: &mut [u32],
-    n: usize,
-    f: Family,
-    g: usize,
-    k: usize,
-    room: usize,
-) -> Built
-    requires { Halfway (lists_in f from.now n) from.now to.old g n k room }
-    ensures { Finished (lists_in f from.now n) to.new g n room result }
+fn finalize(p: Factoring, from: &[u32], to: &mut [u32], f: Family, k: usize) -> Option<usize>
+    requires { Halfway (lists_in f from.now p.nodes) from.now to.old p.gates p.nodes k p.room }
+    ensures { Finished (lists_in f from.now p.nodes) to.new p.gates p.nodes p.room result }
 {
-    count_signal_usage(from, to, n, f);
-    give_back(from, to, n, f);
-    join_gates(to, g, n, k, room)
+    count_signal_usage(from, to, p.nodes, f);
+    give_back(from, to, p.nodes, f);
+    p.join_gates(to, k)
 }
 
 // Factoring::run over the lists that are loaded.
-pub fn run(from: &[u32], to: &mut [u32], n: usize, f: Family, g: usize, room: usize) -> Built
-    requires { Loaded (lists_in f from.now n) from.now to.old g n room }
-    ensures { Finished (lists_in f from.now n) to.new g n room result }
+pub fn run(p: Factoring, from: &[u32], to: &mut [u32], f: Family) -> Option<usize>
+    requires { Loaded (lists_in f from.now p.nodes) from.now to.old p.gates p.nodes }
+    ensures { Finished (lists_in f from.now p.nodes) to.new p.gates p.nodes p.room result }
 {
-    let r = share_pairs(to, g, n, room);
-    match r {
-        Built::To(k) => finalize(from, to, n, f, g, k, room),
-        Built::Full => Built::Full,
-    }
+    let k = share_pairs(p, to)?;
+    finalize(p, from, to, f, k)
 }
 
 // The lists of the pass, without what is set aside; how many they are.

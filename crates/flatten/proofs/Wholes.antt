@@ -7,13 +7,11 @@ use native.Mathlib.Omega.{arith}
 use native.Mathlib.Nat.{le_refl}
 use native.Mathlib.Numerals.{add-one}
 use native.Mathlib.Decide.{ℕ_discrete}
-use mir.Syntax.{w64}
-use mir.Val.{Fits}
 use lib.ListN.{get_or, length}
 use borrow.Author.Tests.{le-ltb, lt-ltb}
 use Rattle.merge_dependencies.specs.Pushing.{behind}
 use Rattle.flatten_gate.specs.Gates.{Flattens, Grew}
-use Rattle.flatten.specs.Flattening.{Laid, Mergeable, Merged, merging_of}
+use Rattle.flatten.specs.Flattening.{Laid, Mergeable, Merged}
 use Rattle.kinds.specs.Kinds.{wide_of}
 use Rattle.kinds.specs.declared.Family.{Family}
 use Rattle.kinds.specs.declared.Family.TheVariants.{And, Xor}
@@ -36,11 +34,9 @@ use Rattle.tables.proofs.Holding.{fanin_one, gate_network, get_or_nodes_of, hold
 use Rattle.merge_dependencies.proofs.Dependencies.{merge_same}
 use Rattle.merge_dependencies.proofs.Openings.{ins_gate}
 use Rattle.merge_dependencies.proofs.Words.{behind_is, behind_le, behind_over}
-use Rattle.merge_dependencies.specs.declared.Pushed.{Pushed}
-use Rattle.merge_dependencies.specs.declared.Pushed.TheVariants.{To}
-use Rattle.merge_dependencies.specs.declared.Pushed as pushed
-use Rattle.flatten.specs.declared.Merging.{Merging}
-use Rattle.flatten.specs.declared.Merging.TheVariants.{Fits as AllFit, Full}
+use Rattle.std.specs.Prelude.{Option, Some, None, Result, Ok, Err}
+use Rattle.refusals.specs.Numbers.{number, numbered}
+use Rattle.refusals.specs.declared.Refusal.{Refusal}
 
 -- ---- what a gate becomes over gates that agree where it names them
 
@@ -84,9 +80,6 @@ module _ (from : List ℕ) (c : Counts) (limit : ℕ) (l₀ : List ℕ) (M : Mer
 
   module _ (l : List ℕ) (at v : ℕ) (inv : Flattened from l₀ l c limit at v) where
     module _ (h : v < c.nodes) where
-      pub nodes_more : Fits w64 (v + 1)
-      nodes_more = record { fits = omega (arith, nodes_few from c M.held) }
-
       below : (f : Family) → inside f (gate_at from v) ≡ true → In (λ w. w < v) (gate_at from v).ins
       below f i =
           let e : model.gate_at (network_of from c) v ≡ gate_at from v = gate_network from c v h in
@@ -107,14 +100,14 @@ module _ (from : List ℕ) (c : Counts) (limit : ℕ) (l₀ : List ℕ) (M : Mer
           (λ f i. all_map (model.gate_at (network_of from c) v).ins (λ s b w r. sym (get_or_nodes_of l v w (b w r)) ∙ ap (λ (x : List Gate). get_or x w no_gate) inv.nodes)
           (rw (← (gate_network from c v h)) at (below f (rw (gate_network from c v h) at i))))
 
-      module _ (m : List ℕ) (r : Pushed) (G : Grew l m v at (flat_gate (gate_at l) limit (gate_at from v)) r) where
+      module _ (m : List ℕ) (r : Option ℕ) (G : Grew l m v at (flat_gate (gate_at l) limit (gate_at from v)) r) where
         grown : Grew l m v at (flat_at (network_of from c) limit v) r
         grown = rw flat_is at G
 
-        pub nodes_next : (k : ℕ) → r ≡ To k → length m ≡ length l → Flattened from l₀ m c limit k (v + 1)
+        pub nodes_next : (k : ℕ) → r ≡ Some k → length m ≡ length l → Flattened from l₀ m c limit k (v + 1)
         nodes_next k e len =
             let g = flat_at (network_of from c) limit v in
-            let q : To k ≡ behind at (length g.ins) = sym e ∙ grown.answer in
+            let q : Some k ≡ behind at (length g.ins) = sym e ∙ grown.answer in
             let le = behind_le at (length g.ins) k q in
             let is = behind_is at (length g.ins) k q in
             rw (add-one v)
@@ -126,15 +119,15 @@ module _ (from : List ℕ) (c : Counts) (limit : ℕ) (l₀ : List ℕ) (M : Mer
               count = omega (arith, is, inv.count, fanin_next (network_of from c) limit v);
             })
 
-        pub nodes_full : r ≡ pushed.TheVariants.Full → Laid (network_of from c) limit m Full
-        nodes_full e =
+        pub nodes_full : r ≡ None → (x : Result (Unit {0}) Refusal) → numbered x ≡ Err 10 → Laid (network_of from c) limit m x
+        nodes_full e x t =
             let over = behind_over at (length (flat_at (network_of from c) limit v).ins) (sym e ∙ grown.answer) in
             let s = size_network from c in
             let q : 2048 < flattened_inputs (network_of from c) limit =
             omega (arith, inv.count, fanin_next (network_of from c) limit v, fanin_more (network_of from c) limit (suc v) (size (network_of from c)) (omega arith), inputs_are (network_of from c) limit) in
-            record { answer = rw (lt-ltb 2048 (flattened_inputs (network_of from c) limit) q); packed = λ p. absurd (omega arith); nodes = λ p. absurd (omega arith) }
+            record { answer = rw (lt-ltb 2048 (flattened_inputs (network_of from c) limit) q) t; packed = λ p. absurd (omega arith); nodes = λ p. absurd (omega arith) }
 
-    pub nodes_end : c.nodes ≤ v → Laid (network_of from c) limit l AllFit
+    pub nodes_end : c.nodes ≤ v → Laid (network_of from c) limit l (Ok tt)
     nodes_end h =
         let a = inv.upto in
         let e : v ≡ size (network_of from c) = omega (arith, size_network from c) in
@@ -145,7 +138,7 @@ module _ (from : List ℕ) (c : Counts) (limit : ℕ) (l₀ : List ℕ) (M : Mer
           nodes = λ p. rw (← e) inv.nodes;
         }
 
-pub ruleset flattenings = (nodes_start, nodes_more, nodes_flattens, nodes_next, nodes_full, nodes_end)
+pub ruleset flattenings = (nodes_start, nodes_flattens, nodes_next, nodes_full, nodes_end)
 
 -- ---- flatten_gates
 
@@ -161,18 +154,19 @@ module _ (from l : List ℕ) (c : Counts) (limit : ℕ) (M : Mergeable from l c)
   pub whole_outs : c.outs ≤ 64
   whole_outs = outs_few from c M.held
 
-  module _ (m : List ℕ) (r : Merging) (L : Laid (network_of from c) limit m r) where
+  module _ (m : List ℕ) where
     pub whole_long : length m ≡ length l → net_size ≤ length m
     whole_long len = omega (arith, M.long)
 
-    pub whole_full : r ≡ Full → Merged (network_of from c) limit m c Full
-    whole_full e =
-        let q : Full ≡ merging_of (flattened_inputs (network_of from c) limit) = sym e ∙ L.answer in
-        record { answer = q; holds = λ p. let z : Full ≡ AllFit = q ∙ rw (le-ltb 2048 (flattened_inputs (network_of from c) limit) p) in let y : ◌≡◌ {A = ℕ} 0 1 = cc in absurd (omega arith) }
+    pub whole_full : (d x : Refusal) (r : Result (Unit {0}) Refusal) → Laid (network_of from c) limit m (Err d) → r ≡ Err x → x ≡ d → Merged (network_of from c) limit m c r
+    whole_full d x r L p q = record {
+      answer = rw (p, q) L.answer;
+      holds = λ few. let z : ◌≡◌ {A = Result (Unit {0}) ℕ} (Err (number d)) (Ok tt) = rw (le-ltb 2048 (flattened_inputs (network_of from c) limit) few) at L.answer in absurd cc;
+    }
 
-    pub whole_done : r ≡ AllFit → (q : List ℕ) → q ≡ put_outputs m (output_at from) c.outs → Merged (network_of from c) limit q c AllFit
-    whole_done e q eq = record {
-      answer = sym e ∙ L.answer;
+    pub whole_done : Laid (network_of from c) limit m (Ok tt) → (q : List ℕ) → q ≡ put_outputs m (output_at from) c.outs → Merged (network_of from c) limit q c (Ok tt)
+    whole_done L q eq = record {
+      answer = L.answer;
       holds = λ few.
           let N = network_of from c in
           let s = size_network from c in

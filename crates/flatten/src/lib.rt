@@ -4,45 +4,34 @@
 ghost use Rattle.tables.specs.Holding.{network_of};
 ghost use Rattle.flatten.specs.Flattening.{Mergeable, Merged, Laid};
 
-use copying::copy_outputs;
 use flatten_gate::flatten_gate;
-use merge_dependencies::Pushed;
+use refusals::Refusal;
 use tables::counts::Counts;
+use tables::layout::copy_outputs;
 
-// Whether the gate inputs after flattening fit; if not, refusal 10.
-#[derive(Clone, Copy)]
-pub enum Merging {
-    Fits,
-    Full,
-}
-
-// The gates in order, each over those already put.
-fn flatten_nodes(from: &[u32], to: &mut [u32], counts: Counts, limit: u32) -> Merging
+// The gates in order, each over those already put, if their inputs have room.
+fn flatten_nodes(from: &[u32], to: &mut [u32], counts: Counts, limit: u32) -> Result<(), Refusal>
     requires { Mergeable from.now to.old counts }
     ensures { Laid (network_of from.now counts) limit to.new result }
 {
     let mut at: usize = 0;
-    let mut v: usize = 0;
-    while v < counts.nodes {
-        let r = flatten_gate(from, to, v, limit, at);
-        let Pushed::To(next) = r else {
-            return Merging::Full;
-        };
-        at = next;
-        v += 1;
+    for v in 0..counts.nodes {
+        at = flatten_gate(from, to, v, limit, at).ok_or(Refusal::Flattened)?;
     }
-    Merging::Fits
+    Ok(())
 }
 
 // The flattened network in `to`, unless its gate inputs pass 2,048.
-pub fn flatten_gates(from: &[u32], to: &mut [u32], counts: Counts, limit: u32) -> Merging
+pub fn flatten_gates(
+    from: &[u32],
+    to: &mut [u32],
+    counts: Counts,
+    limit: u32,
+) -> Result<(), Refusal>
     requires { Mergeable from.now to.old counts }
     ensures { Merged (network_of from.now counts) limit to.new counts result }
 {
-    let r = flatten_nodes(from, to, counts, limit);
-    let Merging::Fits = r else {
-        return Merging::Full;
-    };
+    flatten_nodes(from, to, counts, limit)?;
     copy_outputs(from, to, counts.outs);
-    Merging::Fits
+    Ok(())
 }

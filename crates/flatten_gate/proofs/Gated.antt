@@ -7,6 +7,7 @@ use native.Mathlib.Omega.{arith}
 use mir.Syntax.{w32}
 use mir.Val.{Fits}
 use lib.ListN.{get_or, length}
+use Rattle.std.specs.Prelude.{Option, Some, None}
 use Rattle.copying.specs.Copies.{put_copy}
 use Rattle.merge_dependencies.specs.Pushing.{Merges, Pushes, put_words}
 use Rattle.flatten_gate.specs.Gates.{Flattens, Grew, Puts}
@@ -26,17 +27,15 @@ use Rattle.shape.proofs.Written.{gate_eq}
 use Rattle.tables.proofs.Holding.{length_ins}
 use Rattle.merge_dependencies.proofs.Openings.{ins_gate, kind_gate}
 use Rattle.merge_dependencies.proofs.Words.{behind_fits, behind_is, behind_le, behind_none, behind_over, put_words_inputs, tab_words}
-use Rattle.merge_dependencies.specs.declared.Pushed.{Pushed}
-use Rattle.merge_dependencies.specs.declared.Pushed.TheVariants.{To, Full}
 
 -- ---- the gate that is put
 
 module _ (l m : List ℕ) (v at : ℕ) (g : Gate) where
-  pub grew_full : 2048 < at + length g.ins → Grew l m v at g Full
+  pub grew_full : 2048 < at + length g.ins → Grew l m v at g None
   grew_full h = record { answer = sym (behind_none at (length g.ins) h); packed = λ q. absurd (omega arith); nodes = λ q. absurd (omega arith) }
 
   module _ (P : Packed l v at) (h : v < 512) (r : at + length g.ins ≤ 2048) (et : 0 ≡ g.table) where
-    pub grew_to : m ≡ put_table (put_gate (put_words l at g.ins) v g.kind at (length g.ins)) v 0 0 → Grew l m v at g (To (at + length g.ins))
+    pub grew_to : m ≡ put_table (put_gate (put_words l at g.ins) v g.kind at (length g.ins)) v 0 0 → Grew l m v at g (Some (at + length g.ins))
     unfolding put_node
     grew_to e =
         let ws = g.ins in
@@ -54,10 +53,10 @@ module _ (l m : List ℕ) (v at : ℕ) (g : Gate) where
 
 module _ (from l : List ℕ) (v at : ℕ) (P : Puts from l v at) where
   module _ (n : ℕ) (en : n ≡ count_at from v) where
-    pub push_gate_full : 2048 - at < n → Grew l l v at (gate_at from v) Full
+    pub push_gate_full : 2048 - at < n → Grew l l v at (gate_at from v) None
     push_gate_full h = grew_full l l v at (gate_at from v) (omega (arith, length_ins from v, P.packed.room))
 
-    pub push_gate_done : n ≤ 2048 - at → (m : List ℕ) → m ≡ put_copy from l v at → Grew l m v at (gate_at from v) (To (at + n))
+    pub push_gate_done : n ≤ 2048 - at → (m : List ℕ) → m ≡ put_copy from l v at → Grew l m v at (gate_at from v) (Some (at + n))
     push_gate_done h m em =
         let room : at + count_at from v ≤ 2048 = omega (arith, P.packed.room) in
         record {
@@ -76,11 +75,11 @@ module _ (f : Family) (from l : List ℕ) (v limit at : ℕ) (M : Merges from l 
   merged_ins : flat_by f (gate_at l) limit (gate_at from v) ≡ gate_of (wide_of f) gathered
   merged_ins = ap (λ x. gate_of (wide_of f) (merge_dependencies f (gate_at l) limit x [])) (ins_gate from v)
 
-  module _ (m : List ℕ) (r : Pushed) (P : Pushes l m at (merge_dependencies f (gate_at l) limit (ins_at from v) []) r) where
-    pub merge_full : r ≡ Full → Grew l m v at (flat_by f (gate_at l) limit (gate_at from v)) Full
+  module _ (m : List ℕ) (r : Option ℕ) (P : Pushes l m at (merge_dependencies f (gate_at l) limit (ins_at from v) []) r) where
+    pub merge_full : r ≡ None → Grew l m v at (flat_by f (gate_at l) limit (gate_at from v)) None
     merge_full e = rw merged_ins (grew_full l m v at (gate_of (wide_of f) gathered) (behind_over at (length gathered) (sym e ∙ P.answer)))
 
-    module _ (end : ℕ) (e : r ≡ To end) where
+    module _ (end : ℕ) (e : r ≡ Some end) where
       fits : at + length gathered ≤ 2048
       fits = behind_le at (length gathered) end (sym e ∙ P.answer)
 
@@ -97,7 +96,7 @@ module _ (f : Family) (from l : List ℕ) (v limit at : ℕ) (M : Merges from l 
       merge_long len = omega (arith, M.packed.long)
 
       pub merge_done : (K : Kind) (k : ℕ) (o q : List ℕ) → K ≡ wide_of f → k ≡ code_of K → o ≡ put_gate m v k at (end - at) → q ≡ put_table o v 0 0
-          → Grew l q v at (flat_by f (gate_at l) limit (gate_at from v)) (To end)
+          → Grew l q v at (flat_by f (gate_at l) limit (gate_at from v)) (Some end)
       merge_done K k o q eK ek eo eq =
           let c : end - at ≡ length gathered = omega (arith, end_is) in
           rw (merged_ins, end_is)
@@ -121,7 +120,7 @@ module _ (from l : List ℕ) (v at : ℕ) (F : Flattens from l v at) where
       below = F.below f (inside_is f b true eb h);
     }
 
-    module _ (limit : ℕ) (m : List ℕ) (r : Pushed) (a : Bool) (ea : a ≡ in_family K And) where
+    module _ (limit : ℕ) (m : List ℕ) (r : Option ℕ) (a : Bool) (ea : a ≡ in_family K And) where
       pub flat_and : a ≡ true → Grew l m v at (flat_by And (gate_at l) limit (gate_at from v)) r → Grew l m v at (flat_gate (gate_at l) limit (gate_at from v)) r
       unfolding flat_gate
       flat_and h G = rw (inside_is And a true ea h) G

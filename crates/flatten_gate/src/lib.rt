@@ -7,46 +7,50 @@ ghost use Rattle.merge_dependencies.specs.Pushing.{Merges};
 ghost use Rattle.flatten_gate.specs.Gates.{Puts, Flattens, Grew};
 
 use copying::copy_gate;
-use kinds::{Family, code, is_and, is_xor, kind_of, wide};
-use merge_dependencies::{Pushed, merge_dependencies};
+use kinds::{Family, in_family, kind_of, wide};
+use merge_dependencies::merge_dependencies;
 use tables::layout::{count_at, kind_at, put_gate, put_table};
 
-// Node v as it is.
-fn push_gate(from: &[u32], to: &mut [u32], v: usize, at: usize) -> Pushed
+// Node v as it is; the place behind its inputs, if they have room.
+fn push_gate(from: &[u32], to: &mut [u32], v: usize, at: usize) -> Option<usize>
     requires { Puts from.now to.old v at }
     ensures { Grew to.old to.new v at (gate_at from.now v) result }
 {
     let n = count_at(from, v);
     if 2048 - at < n {
-        return Pushed::Full;
+        return None;
     }
     copy_gate(from, to, v, at);
-    Pushed::To(at + n)
+    Some(at + n)
 }
 
 // Node v merged, as the family's n-ary gate.
-fn merge_gate(from: &[u32], to: &mut [u32], v: usize, f: Family, limit: u32, at: usize) -> Pushed
+fn merge_gate(
+    from: &[u32],
+    to: &mut [u32],
+    v: usize,
+    f: Family,
+    limit: u32,
+    at: usize,
+) -> Option<usize>
     requires { Merges from.now to.old v at }
     ensures { Grew to.old to.new v at (flat_by f (gate_at to.old) limit (gate_at from.now v)) result }
 {
-    let r = merge_dependencies(from, to, v, f, limit, at);
-    let Pushed::To(end) = r else {
-        return Pushed::Full;
-    };
-    put_gate(to, v, code(wide(f)), at as u32, (end - at) as u32);
+    let end = merge_dependencies(from, to, v, f, limit, at)?;
+    put_gate(to, v, u32::from(wide(f)), at as u32, (end - at) as u32);
     put_table(to, v, 0, 0);
-    Pushed::To(end)
+    Some(end)
 }
 
-pub fn flatten_gate(from: &[u32], to: &mut [u32], v: usize, limit: u32, at: usize) -> Pushed
+pub fn flatten_gate(from: &[u32], to: &mut [u32], v: usize, limit: u32, at: usize) -> Option<usize>
     requires { Flattens from.now to.old v at }
     ensures { Grew to.old to.new v at (flat_gate (gate_at to.old) limit (gate_at from.now v)) result }
 {
     let k = kind_of(kind_at(from, v));
-    if is_and(k) {
+    if in_family(k, Family::And) {
         return merge_gate(from, to, v, Family::And, limit, at);
     }
-    if is_xor(k) {
+    if in_family(k, Family::Xor) {
         return merge_gate(from, to, v, Family::Xor, limit, at);
     }
     push_gate(from, to, v, at)

@@ -1,9 +1,9 @@
 -- flatten_nary: what the gates' function answered, and what is left by cleanup and canonical.
-use mathlib.Core.Path.{◌≡◌, refl, sym, ◌∙◌}
+use mathlib.Core.Path.{◌≡◌, refl, sym}
 use borrow.Author.Tests.{ltb-false}
 use Prim.Native.Nat.{ℕ, ◌≤◌}
 use native.Mathlib.Omega.{arith}
-use mathlib.Core.Bool.{Bool, true, false, cond}
+use mathlib.Core.Bool.{true}
 use mathlib.Core.List.{List}
 use lib.ListN.{length}
 use lib.Dec.{ltb}
@@ -12,12 +12,13 @@ use Rattle.model.specs.Sharing.{flattened_inputs, flatten_nary}
 use Rattle.shape.proofs.Flatten.{merged_sorted}
 use Rattle.tables.specs.Holding.{network_of}
 use Rattle.tables.specs.declared.counts.Counts.{Counts}
-use Rattle.flatten.specs.Flattening.{Mergeable, Merged}
-use Rattle.flatten.specs.declared.Merging.{Merging}
-use Rattle.flatten.specs.declared.Merging.TheVariants.{Fits, Full}
+use Rattle.flatten.specs.Flattening.{Mergeable, Merged, merging_number}
 use Rattle.stages.specs.Stages.{Workable, Left, Staged, flat_refusal}
-use Rattle.stages.specs.declared.Stage.TheVariants.{Refused, Network}
-use Rattle.stages.proofs.Staging.{staged_left, staged_refused}
+use Rattle.std.specs.Prelude.{Result, Ok, Err}
+use Rattle.refusals.specs.declared.Refusal.{Refusal}
+use Rattle.refusals.proofs.Numbers.{unless_ok_number, unless_err}
+use Rattle.laws.proofs.Choices.{by_bool}
+use Rattle.stages.proofs.Staging.{staged_left, staged_up}
 use Rattle.shape.proofs.Cleanup.{cleanup_sorted}
 use Rattle.cleanup.specs.Marking.{Cleanable, Cleaned}
 use Rattle.dedup.specs.States.{Dedupable, Deduped}
@@ -45,28 +46,22 @@ module _ (from to : List ℕ) (c : Counts) (W : Workable from to c) where
   pub merge_asks : Mergeable from to c
   merge_asks = record { held = W.held; sorted = W.sorted; long = (let h = W.long_to in omega arith) }
 
-  module _ (limit : ℕ) (m : List ℕ) (x : Merging) (M : Merged (network_of from c) limit m c x) where
-    abbrev over : Bool
-    over = ltb 2048 (flattened_inputs (network_of from c) limit)
+  module _ (limit : ℕ) (m : List ℕ) where
+    abbrev inputs : ℕ
+    inputs = flattened_inputs (network_of from c) limit
 
-    full_is : (b : Bool) → Full ≡ cond b Full Fits → b ≡ true
-    full_is true e = refl
-    full_is false e = let z : ◌≡◌ {A = ℕ} 0 1 = cc in absurd (omega arith)
-
-    fits_is : (b : Bool) → Fits ≡ cond b Full Fits → b ≡ false
-    fits_is false e = refl
-    fits_is true e = let z : ◌≡◌ {A = ℕ} 0 1 = cc in absurd (omega arith)
-
-    pub merge_full : (l : List ℕ) → x ≡ Full → Staged (flat_refusal (network_of from c) limit) (flatten_nary (network_of from c) limit) l (Refused 10)
+    pub merge_refused : (e : Refusal) → Merged (network_of from c) limit m c (Err e) → (l : List ℕ) (r : Result Counts Refusal) (x : Refusal) → r ≡ Err x → x ≡ e
+        → Staged (flat_refusal (network_of from c) limit) (flatten_nary (network_of from c) limit) l r
     unfolding flat_refusal
-    merge_full l q = rw (full_is over (sym q ∙ M.answer)) (staged_refused 10 10 (flatten_nary (network_of from c) limit) l refl refl)
+    merge_refused e M l r x p q =
+        staged_up _ (flatten_nary (network_of from c) limit) l r x e p q (sym (unless_err (Err e) (merging_number inputs) tt e M.answer refl))
 
-    module _ (q : x ≡ Fits) where
-      within : over ≡ false
-      within = fits_is over (sym q ∙ M.answer)
+    module _ (M : Merged (network_of from c) limit m c (Ok tt)) where
+      within : merging_number inputs ≡ 0
+      within = unless_ok_number (Ok tt) (merging_number inputs) tt tt M.answer refl
 
-      few : flattened_inputs (network_of from c) limit ≤ 2048
-      few = let n = flattened_inputs (network_of from c) limit in ltb-false 2048 n within
+      few : inputs ≤ 2048
+      few = by_bool (ltb 2048 inputs) (λ e. let z : ◌≡◌ {A = ℕ} 10 0 = rw e at within in absurd (omega arith)) (λ e. ltb-false 2048 inputs e)
 
       pub merge_next : length m ≡ length to → Workable m from c
       merge_next h = record {
@@ -77,8 +72,8 @@ module _ (from to : List ℕ) (c : Counts) (W : Workable from to c) where
       }
 
       pub merge_left : (l : List ℕ) (r : Counts) → Left (canonical (cleanup (network_of m c))) l r
-          → Staged (flat_refusal (network_of from c) limit) (flatten_nary (network_of from c) limit) l (Network r)
+          → Staged (flat_refusal (network_of from c) limit) (flatten_nary (network_of from c) limit) l (Ok r)
       unfolding flat_refusal flatten_nary
       merge_left l r L = rw within (staged_left _ l r (rw (M.holds few).net at L))
 
-pub ruleset flattens = (clean_asks, clean_next, clean_left, merge_asks, merge_full, merge_next, merge_left)
+pub ruleset flattens = (clean_asks, clean_next, clean_left, merge_asks)

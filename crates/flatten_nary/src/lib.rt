@@ -7,8 +7,8 @@ ghost use Rattle.tables.specs.Holding.{network_of};
 ghost use Rattle.stages.specs.Stages.{Workable, Left, Staged, flat_refusal};
 
 use dedup::dedup;
-use flatten::{Merging, flatten_gates};
-use stages::Stage;
+use flatten::flatten_gates;
+use refusals::Refusal;
 use tables::counts::Counts;
 
 // cleanup, then canonical, of the network in `to`: back into `to`.
@@ -21,13 +21,15 @@ fn clean(from: &mut [u32], to: &mut [u32], c: Counts) -> Counts
 }
 
 // flatten_nary: the network in `from` into `to`, or 10.
-pub fn flatten_nary(from: &mut [u32], to: &mut [u32], c: Counts, limit: u32) -> Stage
+pub fn flatten_nary(
+    from: &mut [u32],
+    to: &mut [u32],
+    c: Counts,
+    limit: u32,
+) -> Result<Counts, Refusal>
     requires { Workable from.old to.old c }
     ensures { Staged (flat_refusal (network_of from.old c) limit) (flatten_nary (network_of from.old c) limit) to.new result }
 {
-    let m = flatten_gates(from, to, c, limit);
-    match m {
-        Merging::Full => Stage::Refused(10),
-        Merging::Fits => Stage::Network(clean(from, to, c)),
-    }
+    flatten_gates(from, to, c, limit)?;
+    Ok(clean(from, to, c))
 }

@@ -5,6 +5,7 @@ use native.Mathlib.Omega.{arith}
 use mathlib.Core.Bool.{Bool, true, false, not, cond, ◌&&◌}
 use mathlib.Core.List.{List}
 use lib.ListN.{get_or, set}
+use mir.Val.{bool_byte}
 use lib.Dec.{eqb, ltb}
 use borrow.Author.Tests.{eqb-true, not-true, not-false}
 use Rattle.kinds.specs.Kinds.{kind_of, is_flip_flop}
@@ -16,6 +17,7 @@ use Rattle.model.specs.Gate.{fits_kind, fits_code}
 use Rattle.model.specs.Evaluate.{next_state}
 use Rattle.tables.specs.Layout.{kind_at, first_at, count_at, input_at}
 use Rattle.signal_values.specs.Signals.{value_at, dff_at, Reads}
+use Rattle.signal_values.proofs.Bits.{byte_bit}
 use Rattle.signal_values.proofs.Turns.{input_is, input_first}
 use Rattle.flip_flops.specs.Storing.{new_state, new_byte, Passing}
 use Rattle.flip_flops.proofs.Filling.{Filled, filled_put, filled_reads, filled_skip, filled_none, filled_all}
@@ -35,20 +37,20 @@ module _ (f t : List ℕ) (first y : ℕ) (en q : Bool) (b : y ≡ input_at f (f
       (taut2 (λ d res. d && not res) (λ d res. cond res false d) tt d res)
 
 -- node v is no flip-flop: its byte stays; it is one: its new byte
-pub state_stays : (f t st l : List ℕ) (v n : ℕ) (b : Bool) → Filled (new_byte f t st) st l v n → v < n → b ≡ dff_at f v → not b ≡ true
+pub state_stays : (f t st l : List ℕ) (v n : ℕ) (b : Bool) → Filled (new_byte f t st) st l v n → v < n → b ≡ dff_at f v → b ≡ false
     → Filled (new_byte f t st) st l (v + 1) n
 unfolding new_byte
 state_stays f t st l v n b h r p e =
-    let d : dff_at f v ≡ false = sym p ∙ not-true b e in
+    let d : dff_at f v ≡ false = sym p ∙ e in
     filled_skip (new_byte f t st) st l v n h r (rw d)
 
-pub state_goes : (f t st l : List ℕ) (v n first x : ℕ) (b q : Bool) → Filled (new_byte f t st) st l v n → v < n → b ≡ dff_at f v → not b ≡ false
-    → first ≡ first_at f v → q ≡ new_state f t first (eqb (get_or l v 0) 1) → x ≡ bit q → Filled (new_byte f t st) st (set l v x) (v + 1) n
+pub state_goes : (f t st l : List ℕ) (v n first x : ℕ) (b q : Bool) → Filled (new_byte f t st) st l v n → v < n → b ≡ dff_at f v → b ≡ true
+    → first ≡ first_at f v → q ≡ new_state f t first (eqb (get_or l v 0) 1) → x ≡ bool_byte q → Filled (new_byte f t st) st (set l v x) (v + 1) n
 unfolding new_byte
 state_goes f t st l v n first x b q h r p e a y z =
-    let d : dff_at f v ≡ true = sym p ∙ not-false b e in
+    let d : dff_at f v ≡ true = sym p ∙ e in
     let w : get_or l v 0 ≡ get_or st v 0 = filled_reads (new_byte f t st) st l v n h r in
-    filled_put (new_byte f t st) st l v n x h r (z ∙ ap bit y ∙ rw (d, a, w))
+    filled_put (new_byte f t st) st l v n x h r (z ∙ byte_bit q ∙ ap bit y ∙ rw (d, a, w))
 
 clash : {X : Type 0} → false ≡ true → X
 clash e = let z : ◌≡◌ {A = ℕ} 0 1 = cc in absurd (omega arith)
@@ -71,11 +73,11 @@ three_inputs XnorN n d f = clash d
 three_inputs Buf n d f = clash d
 three_inputs Lut n d f = clash d
 
-pub dff_reads : (f t st : List ℕ) (v n first : ℕ) (b : Bool) → Passing f t st n → v < n → b ≡ dff_at f v → not b ≡ false → first ≡ first_at f v → Reads f t first 3
+pub dff_reads : (f t st : List ℕ) (v n first : ℕ) (b : Bool) → Passing f t st n → v < n → b ≡ dff_at f v → b ≡ true → first ≡ first_at f v → Reads f t first 3
 unfolding dff_at fits_code
 dff_reads f t st v n first b h l p e a =
     let g = h.gates v l in
-    let c : count_at f v ≡ 3 = three_inputs (kind_of (kind_at f v)) (count_at f v) (sym p ∙ not-false b e) (and_right (ltb (kind_at f v) 15) _ g.fits) in
+    let c : count_at f v ≡ 3 = three_inputs (kind_of (kind_at f v)) (count_at f v) (sym p ∙ e) (and_right (ltb (kind_at f v) 15) _ g.fits) in
     record { long = g.reads.long; room = g.reads.room; ends = rw (a, ← c) g.reads.ends }
 
 pub ruleset turns = (filled_none, filled_all, dff_reads, state_stays, state_goes)

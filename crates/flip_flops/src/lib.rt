@@ -2,7 +2,6 @@
 #![tactic(auto)]
 
 ghost use Rattle.std.specs.Prelude.{◌≡◌};
-ghost use Rattle.laws.specs.Bools.{bit};
 ghost use Rattle.laws.specs.Lists.{tab};
 ghost use Rattle.model.specs.Answers.{laid_over};
 ghost use Rattle.signal_values.specs.Signals.{Reads};
@@ -10,12 +9,6 @@ ghost use Rattle.flip_flops.specs.Storing.{new_state, new_byte, Passing};
 
 use signal_values::{is_dff, value};
 use tables::layout::{first_at, input_at};
-
-pub fn byte_if(b: bool) -> u8
-    ensures { result ≡ bit b }
-{
-    if b { 1 } else { 0 }
-}
 
 // What the flip-flop whose inputs begin at first stores, by the values of the cycle: en zero holds; en one with res one stores zero; else
 // d is stored.
@@ -34,13 +27,9 @@ pub fn put_states(from: &[u32], to: &[u32], state: &mut [u8], n: usize)
     requires { Passing from.now to.now state.old n }
     ensures { state.new ≡ laid_over (tab (new_byte from.now to.now state.old) n) state.old }
 {
-    let mut v: usize = 0;
-    while v < n {
-        if !is_dff(from, v) {
-            v += 1;
-            continue;
+    for v in 0..n {
+        if is_dff(from, v) {
+            state[v] = u8::from(new_state(from, to, first_at(from, v), state[v] == 1));
         }
-        state[v] = byte_if(new_state(from, to, first_at(from, v), state[v] == 1));
-        v += 1;
     }
 }

@@ -2,11 +2,9 @@
 use Rattle.std.specs.Prelude.{◌≡◌, ℕ, ◌≤◌, true, List, length, take}
 use Rattle.kinds.specs.declared.Kind.{Kind}
 use Rattle.model.specs.Gate.{fits_kind}
-use Rattle.model.specs.Normal.{Norm, copied, made, gate_of, least, most, low3, mid3, high3}
+use Rattle.model.specs.Normal.{Norm, copied, made, gate_of}
 use Rattle.gates.specs.declared.Normalization.{Normalization}
 use Rattle.gates.specs.declared.Normalization.TheVariants.{Copy, Node}
-use Rattle.gates.specs.declared.order.Two.{Two}
-use Rattle.gates.specs.declared.order.Three.{Three}
 
 -- the gate's inputs stand at the front of the list; a Lut's table stays with the caller
 unfoldable pub normal_of : Normalization → List ℕ → Norm
@@ -22,12 +20,3 @@ pub record Listed (l : List ℕ) (n : ℕ) : Type 0 where
 pub record Shaped (k : Kind) (l : List ℕ) (n : ℕ) : Type 0 where
   pub listed : Listed l n
   pub fits : fits_kind k n ≡ true
-
-pub record Sorted2 (a b : ℕ) (r : Two) : Type 0 where
-  pub low : r.low.a ≡ least a b
-  pub high : r.high.a ≡ most a b
-
-pub record Sorted3 (a b c : ℕ) (r : Three) : Type 0 where
-  pub low : r.low.a ≡ low3 a b c
-  pub mid : r.mid.a ≡ mid3 a b c
-  pub high : r.high.a ≡ high3 a b c

@@ -2,8 +2,8 @@
 // inversion whose inputs stand at the front of a lent list.
 #![tactic(auto)]
 
-ghost use Rattle.std.specs.Prelude.{◌≡◌, ◌≤◌, length};
-ghost use Rattle.model.specs.Normal.{made2, made3};
+ghost use Rattle.std.specs.Prelude.{◌≡◌, ◌≤◌, map, length};
+ghost use Rattle.model.specs.Normal.{made, gate_of};
 ghost use Rattle.gates.specs.Normals.{normal_of};
 
 use kinds::Kind;
@@ -12,7 +12,7 @@ use signal::Signal;
 pub mod binary;
 pub mod order;
 
-#[derive(Clone, Copy)]
+#[derive(Clone, Copy, PartialEq, Eq)]
 pub enum Normalization {
     // The trivial case: the gate is a signal.
     Copy(Signal),
@@ -20,36 +20,22 @@ pub enum Normalization {
     Node { kind: Kind, count: usize, inv: bool },
 }
 
-pub fn made_2(kind: Kind, x: Signal, y: Signal, inv: bool, list: &mut [u32]) -> Normalization
-    requires { 3 ≤ length list.old }
-    ensures { normal_of result list.new ≡ made2 kind x.a y.a inv }
-{
-    list[0] = x.a;
-    list[1] = y.a;
-    Normalization::Node {
-        kind: kind,
-        count: 2,
-        inv: inv,
-    }
-}
-
-pub fn made_3(
+// A gate of N inputs, with an optional inversion.
+pub fn made<const N: usize>(
     kind: Kind,
-    x: Signal,
-    y: Signal,
-    w: Signal,
+    ins: [Signal; N],
     inv: bool,
     list: &mut [u32],
 ) -> Normalization
-    requires { 3 ≤ length list.old }
-    ensures { normal_of result list.new ≡ made3 kind x.a y.a w.a inv }
+    requires { N ≤ length list.old }
+    ensures { normal_of result list.new ≡ made (gate_of kind (map (λ s. s.a) ins.entry)) inv }
 {
-    list[0] = x.a;
-    list[1] = y.a;
-    list[2] = w.a;
+    for i in 0..N {
+        list[i] = ins[i].a;
+    }
     Normalization::Node {
-        kind: kind,
-        count: 3,
-        inv: inv,
+        kind,
+        count: N,
+        inv,
     }
 }

@@ -2,7 +2,7 @@
 use Prim.Native.Nat.{ℕ, ◌+◌, ◌<◌, ◌≤◌}
 use mathlib.Core.Path.{ap, ap₂, refl, sym, ◌∙◌, ◌≡◌}
 use mathlib.Core.Logic.{inl, inr, ◌≢◌}
-use mathlib.Core.Bool.{Bool, false, not, true}
+use mathlib.Core.Bool.{Bool, false, true}
 use mathlib.Core.List.{List, [], map, ◌++◌}
 use native.Mathlib.Omega.{arith}
 use native.Mathlib.Nat.{le_refl}
@@ -11,7 +11,6 @@ use native.Mathlib.Decide.{dec_lt, ℕ_discrete}
 use mir.Syntax.{w32, w64}
 use mir.Val.{Fits}
 use lib.ListN.{get_or, length, length-append}
-use borrow.Author.Tests.{not-true}
 use Rattle.model.specs.Sharing.{exclusive_signals, give_back, once, retain, takes}
 use Rattle.pairs.specs.Lists.{area_size, left_at, list_at, lists_of, pair_at, put_left, put_list, start_at}
 use Rattle.tables.specs.Layout.{gate_at, ins_at}
@@ -26,7 +25,7 @@ use Rattle.shape.proofs.FactoringEnds.{get_or_given, length_given, split_length}
 use Rattle.uses.proofs.Loads.{Written, lists_are, once_left, shared_of, written_other, written_says}
 use Rattle.uses.proofs.Picking.{once_put_list, retain_ext}
 use Rattle.uses.proofs.Slots.{lists_few, lists_next, lists_none, lists_skip, met, met_here, met_there, slot_apart, slot_room}
-use Rattle.uses.proofs.Walks.{ins_named, source_few, source_more}
+use Rattle.uses.proofs.Walks.{ins_named, source_few}
 use Rattle.kinds.specs.declared.Family.{Family}
 
 -- ---- give_gate
@@ -136,12 +135,9 @@ module _ (f : Family) (from l₀ l : List ℕ) (n v i : ℕ) (inv : Giving f fro
     pub give_few : v < 512
     give_few = source_few from n v C.between.source h
 
-    pub give_more : Fits w64 (v + 1)
-    give_more = source_more from n v C.between.source h
-
-    pub give_skip : (t : Bool) → t ≡ takes f (gate_at from v) → not t ≡ true → Giving f from l₀ l n (v + 1) i
+    pub give_skip : (t : Bool) → t ≡ takes f (gate_at from v) → t ≡ false → Giving f from l₀ l n (v + 1) i
     give_skip t et q =
-        let z : takes f (gate_at from v) ≡ false = sym et ∙ not-true t q in
+        let z : takes f (gate_at from v) ≡ false = sym et ∙ q in
         record {
           upto = omega arith;
           same = inv.same;
@@ -153,7 +149,7 @@ module _ (f : Family) (from l₀ l : List ℕ) (n v i : ℕ) (inv : Giving f fro
           counted = inv.counted;
         }
 
-    module _ (t : Bool) (et : t ≡ takes f (gate_at from v)) (q : not t ≡ false) where
+    module _ (t : Bool) (et : t ≡ takes f (gate_at from v)) (q : t ≡ true) where
       here : get_or (lists_in f from n) i [] ≡ ins_at from v
       here = met_here f from v n h t et q i inv.gates
 
@@ -254,4 +250,4 @@ module _ (f : Family) (from l₀ l : List ℕ) (n v i : ℕ) (inv : Giving f fro
         pairs = inv.pairs;
       }
 
-pub ruleset give_backs = (give_start, give_few, give_more, give_skip, give_gate, give_i, give_next, give_end)
+pub ruleset give_backs = (give_start, give_few, give_skip, give_gate, give_i, give_next, give_end)

@@ -27,14 +27,10 @@ pub fn give_back(from: &[u32], to: &mut [u32], n: usize, f: Family)
     ensures { GivenBack (lists_in f from.now n) to.old to.new }
 {
     let mut i: usize = 0;
-    let mut v: usize = 0;
-    while v < n {
-        if !takes(from, f, v) {
-            v += 1;
-            continue;
+    for v in 0..n {
+        if takes(from, f, v) {
+            give_gate(from, to, v, i);
+            i += 1;
         }
-        give_gate(from, to, v, i);
-        i += 1;
-        v += 1;
     }
 }

@@ -30,7 +30,7 @@ use Rattle.tables.proofs.Building.{length_put_node, nodes_of_next, nodes_of_none
 use Rattle.shape.proofs.Written.{gate_eq}
 use Rattle.uses.proofs.Slots.{list_there, lists_next, lists_none, lists_skip}
 use Rattle.uses.proofs.Tallies.{lists_on, lists_same}
-use Rattle.uses.proofs.Walks.{source_few, source_more}
+use Rattle.uses.proofs.Walks.{source_few}
 use Rattle.kinds.specs.declared.Family.{Family}
 use Rattle.kinds.specs.declared.Kind.{Kind}
 use Rattle.kinds.specs.declared.Kind.TheVariants.{Buf}
@@ -149,9 +149,6 @@ module _ (f : Family) (from l₀ l : List ℕ) (n i at v : ℕ) (inv : Writing f
     pub writes_few : v < 512
     writes_few = source_few from n v B.source h
 
-    pub nodes_more : Fits w64 (v + 1)
-    nodes_more = source_more from n v B.source h
-
     pub nodes_long : area_size ≤ length l
     nodes_long = omega (arith, B.laid.long, inv.same.long)
 
@@ -242,4 +239,4 @@ module _ (f : Family) (from l₀ l : List ℕ) (n i at v : ℕ) (inv : Writing f
         nodes = sym (ap (nodes_of l) e) ∙ inv.nodes ∙ ap₂ (replaced f) (ap (nodes_of from) e) (ap (lists_of l₀) g);
       }
 
-pub ruleset writes = (nodes_start, writes_few, nodes_more, nodes_long, nodes_i, nodes_i_more, nodes_at_more, nodes_buf, nodes_sig, nodes_taken, nodes_copy, nodes_fits, nodes_other, nodes_end)
+pub ruleset writes = (nodes_start, writes_few, nodes_long, nodes_i, nodes_i_more, nodes_at_more, nodes_buf, nodes_sig, nodes_taken, nodes_copy, nodes_fits, nodes_other, nodes_end)

@@ -84,9 +84,6 @@ module _ (f : Family) (l₀ l : List ℕ) (n k at j : ℕ) (inv : Pairing f l₀
     pub pairs_at : Fits w64 (at + 2 * j)
     pairs_at = record { fits = omega (arith, P.room) }
 
-    pub pairs_more : Fits w64 (j + 1)
-    pairs_more = record { fits = omega (arith, P.nodes) }
-
     pub pairs_long : area_size ≤ length l
     pairs_long = omega (arith, P.long, inv.same.long)
 
@@ -124,7 +121,7 @@ module _ (f : Family) (l₀ l : List ℕ) (n k at j : ℕ) (inv : Pairing f l₀
       let e : j ≡ k = omega arith in
       rw (← e) (record { long = inv.same.long; packed = inv.packed; nodes = inv.nodes })
 
-pub ruleset pairings = (pairs_start, pairs_few, pairs_node, pairs_two, pairs_at, pairs_more, pairs_long, pairs_puts, pairs_next, pairs_end)
+pub ruleset pairings = (pairs_start, pairs_few, pairs_node, pairs_two, pairs_at, pairs_long, pairs_puts, pairs_next, pairs_end)
 
 -- ---- what a held network gives to read
 

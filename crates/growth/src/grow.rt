@@ -6,7 +6,7 @@ ghost use Rattle.tables.specs.Building.{put_node};
 ghost use Rattle.growth.specs.Growing.{either, Puts, Begun, Nodes, Paired, Whole, Ended, Grows};
 
 use copying::{copy_gate, copy_outputs};
-use kinds::{Family, Kind, code};
+use kinds::{Family, Kind};
 use pairs::lists::{pair_first, pair_second, sig_at, start_at};
 use tables::counts::Counts;
 use tables::layout::{count_at, put_gate, put_input, put_table};
@@ -18,7 +18,7 @@ fn put_buf(to: &mut [u32], v: usize, at: usize, s: u32)
     ensures { to.new ≡ put_node to.old v (code_of Kind.Buf) at (either s s) 1 0 0 }
 {
     put_input(to, at, s);
-    put_gate(to, v, code(Kind::Buf), at as u32, 1);
+    put_gate(to, v, u32::from(Kind::Buf), at as u32, 1);
     put_table(to, v, 0, 0);
 }
 
@@ -29,7 +29,7 @@ fn put_two(to: &mut [u32], v: usize, f: Family, at: usize, a: u32, b: u32)
 {
     put_input(to, at, a);
     put_input(to, at + 1, b);
-    put_gate(to, v, code(two(f)), at as u32, 2);
+    put_gate(to, v, u32::from(two(f)), at as u32, 2);
     put_table(to, v, 0, 0);
 }
 
@@ -50,19 +50,16 @@ fn put_nodes(from: &[u32], to: &mut [u32], n: usize, f: Family) -> usize
 {
     let mut i: usize = 0;
     let mut at: usize = 0;
-    let mut v: usize = 0;
-    while v < n {
+    for v in 0..n {
         if takes(from, f, v) {
             let s = sig_at(to, start_at(to, i));
             put_buf(to, v, at, s);
             i += 1;
             at += 1;
-            v += 1;
-            continue;
+        } else {
+            copy_gate(from, to, v, at);
+            at += count_at(from, v);
         }
-        copy_gate(from, to, v, at);
-        at += count_at(from, v);
-        v += 1;
     }
     at
 }
@@ -72,12 +69,10 @@ fn put_pairs(to: &mut [u32], n: usize, k: usize, f: Family, at: usize)
     requires { Paired to.old n k at }
     ensures { Whole f to.old to.new n k at }
 {
-    let mut j: usize = 0;
-    while j < k {
+    for j in 0..k {
         let a = pair_first(to, n + j);
         let b = pair_second(to, n + j);
         put_two(to, n + j, f, at + 2 * j, a, b);
-        j += 1;
     }
 }
 

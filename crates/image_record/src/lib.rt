@@ -5,52 +5,39 @@ ghost use Rattle.std.specs.Prelude.{◌≡◌};
 ghost use Rattle.model.specs.Image.{record_of, record_at_of};
 ghost use Rattle.image_record.specs.Holders.{place_of};
 
-use image::Checked;
+use std::ops::Range;
 
-// Bytes of an image: where they begin, and how many.
-#[derive(Clone, Copy)]
-struct Place {
-    at: usize,
-    size: usize,
-}
-
-// Where record k lies; no bytes if the image is refused or k is no node.
-fn place_of(img: &[u8], k: u32) -> Place
+// The bytes of record k; none if the image is refused or k is no node.
+fn place_of(img: &[u8], k: u32) -> Option<Range<usize>>
     ensures { result ≡ place_of img.now k }
 {
-    let c = image::check(img);
-    match c {
-        Checked::Refused(_) => Place { at: 0, size: 0 },
-        Checked::Sound(f) => {
-            let nodes = f.nodes;
-            if nodes <= k {
-                return Place { at: 0, size: 0 };
-            }
-            let start = f.start;
-            let body = &img[start..];
-            let at = records::skip(body, k);
-            let size = records::size_of(words::nth(body, at));
-            Place {
-                at: start + 4 * at,
-                size: 4 * size,
-            }
-        }
+    let f = image::check::<false>(img).ok()?;
+    if f.nodes <= k {
+        return None;
     }
+    let body = &img[f.start..];
+    let at = records::skip(body, k);
+    let size = records::size_of(words::nth(body, at));
+    let from = f.start + 4 * at;
+    Some(from..from + 4 * size)
 }
 
 // The byte of the image where record k begins; 0 if there is none.
 pub fn record_at(img: &[u8], k: u32) -> usize
     ensures { result ≡ record_at_of img.now k }
 {
-    place_of(img, k).at
+    match place_of(img, k) {
+        Some(p) => p.start,
+        None => 0,
+    }
 }
 
 // The part of the image that holds record k; an empty part if the image is refused or k is no node.
 pub fn record(img: &[u8], k: u32) -> &[u8]
     ensures { result.now ≡ record_of img.now k }
 {
-    let p = place_of(img, k);
-    let from = p.at;
-    let to = from + p.size;
-    &img[from..to]
+    match place_of(img, k) {
+        Some(p) => &img[p.start..p.end],
+        None => &img[..0],
+    }
 }

@@ -6,8 +6,6 @@ use native.Mathlib.Omega.{arith}
 use native.Mathlib.Numerals.{add-one}
 use mathlib.Core.List.{List, [], ◌∷◌, ◌++◌, append-nil}
 use lib.ListN.{length}
-use mir.Val.{Fits}
-use mir.Syntax.{w64}
 use Rattle.model.specs.Network.{rising, push_if, seen}
 use Rattle.shape.proofs.Sums.{bit_pos, bit_zero}
 use Rattle.tables.specs.Layout.{cell, store, mark_base, order_base}
@@ -57,9 +55,6 @@ module _ (from l : List ℕ) (c : Counts) (v k : ℕ) (G : Keeping from l c v k)
           order = rw (add-one v) (G.order ∙ sym (ap (λ (b : Bool). rising (seen (network_of from c)) v ++ push_if b v []) vb ∙ append-nil (rising (seen (network_of from c)) v)));
           few = omega arith;
         }
-
-pub keep_count : (from l : List ℕ) (c : Counts) (v k : ℕ) → Keeping from l c v k → v < c.nodes → Fits w64 (v + 1)
-keep_count from l c v k G h = record { fits = omega (arith, G.marked.ok.few) }
 
 pub keep_end : (from l : List ℕ) (c : Counts) (v k : ℕ) → Keeping from l c v k → v ≤ c.nodes → c.nodes ≤ v → Keeping from l c c.nodes k
 keep_end from l c v k G a b = let e : v ≡ c.nodes = omega arith in rw e at G

@@ -23,12 +23,9 @@ pub fn keep_marked(from: &[u32], to: &mut [u32], c: Counts) -> usize
     requires { Marked from.now to.old c }
     ensures { Keeping from.now to.new c c.nodes result }
 {
-    let n = c.nodes;
     let mut k: usize = 0;
-    let mut v: usize = 0;
-    while v < n {
+    for v in 0..c.nodes {
         k = keep_node(from, to, c, v, k);
-        v += 1;
     }
     k
 }

@@ -1,7 +1,7 @@
 -- No second answer satisfies the promise of read.
 use mathlib.Core.List.{List}
 use Prim.Native.Nat.{ℕ}
-use Rattle.answers.specs.declared.Answer.{Answer}
+use Rattle.model.specs.Answers.{Answer}
 use Rattle.model.specs.Answers.{Kept}
 use Rattle.tables.proofs.Unique.{Same, unique}
 use Rattle.model.specs.Entries.{read_outcome}

@@ -4,4 +4,3 @@ pub mod Lines
 pub mod Lengths
 pub mod Answering
 pub mod Worked
-pub mod Names

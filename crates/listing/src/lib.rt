@@ -9,9 +9,11 @@ ghost use Rattle.tables.specs.Holding.{network_of, Held};
 ghost use Rattle.tables.specs.Working.{Answered};
 ghost use Rattle.text_parts.specs.Putting.{Put};
 ghost use Rattle.listing.specs.Fields.{Node, Inputs, Outputs, head_text, inputs_text};
+ghost use Rattle.refusals.specs.Numbers.{numbered as by_number};
 
 use answers::Answer;
 use kinds::kind_of;
+use refusals::Refusal;
 use signal::Signal;
 use tables::counts::Counts;
 use tables::layout::{count_at, first_at, high_at, input_at, kind_at, low_at, output_at};
@@ -44,17 +46,10 @@ fn put_inputs(from: &[u32], first: usize, n: usize, out: &mut [u8], at: usize) -
     ensures { Put out.old at (inputs_text from.now first n) out.new result }
 {
     let mut p = at;
-    let mut j: usize = 0;
-    while j < n {
+    for j in 0..n {
         let space = put(out, p, b' ');
-        p = put_signal(
-            out,
-            space,
-            Signal {
-                a: input_at(from, first + j),
-            },
-        );
-        j += 1;
+        let a = input_at(from, first + j);
+        p = put_signal(out, space, Signal { a });
     }
     p
 }
@@ -98,10 +93,8 @@ fn put_nodes(from: &[u32], counts: Counts, out: &mut [u8], at: usize) -> usize
 {
     let nodes = counts.nodes;
     let mut p = at;
-    let mut v: usize = 0;
-    while v < nodes {
+    for v in 0..nodes {
         p = put_node(from, v, out, p);
-        v += 1;
     }
     p
 }
@@ -122,10 +115,8 @@ fn put_outputs(from: &[u32], outs: usize, out: &mut [u8], at: usize) -> usize
     ensures { Put out.old at (numbered output_line 0 (outputs_of from.now outs)) out.new result }
 {
     let mut p = at;
-    let mut o: usize = 0;
-    while o < outs {
+    for o in 0..outs {
         p = put_output(o, output_at(from, o), out, p);
-        o += 1;
     }
     p
 }
@@ -152,12 +143,12 @@ fn listing_len(from: &[u32], counts: Counts) -> usize
 // The text of the network in an area.
 pub fn listing(from: &[u32], counts: Counts, out: &mut [u8]) -> Answer
     requires { Held from.now counts }
-    ensures { Answered (in_room (length out.old) 0 (written (listing_of (network_of from.now counts)) [])) out.old result out.new }
+    ensures { Answered (in_room (length out.old) 0 (written (listing_of (network_of from.now counts)) [])) out.old (by_number result) out.new }
 {
     let len = listing_len(from, counts);
     if out.len() < len {
-        return Answer::Refused(13);
+        return Err(Refusal::Room);
     }
     put_listing(from, counts, out);
-    Answer::Accepted(len)
+    Ok(len)
 }

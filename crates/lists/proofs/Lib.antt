@@ -1,3 +1,4 @@
+pub mod Dropping
+pub mod Mapping
 pub mod Ordering
 pub mod Checks
-pub mod Reordering

@@ -1,26 +1,27 @@
 -- The laws of loading an image: what `check` answered, and the body behind the prefix.
-use mathlib.Core.Path.{◌≡◌, sym, ap, ◌∙◌, subst}
+use mathlib.Core.Path.{◌≡◌, refl, sym, ap, ◌∙◌, subst}
+use mathlib.Core.Bool.{Bool, true, false}
 use mathlib.Core.List.{List}
-use Prim.Native.Nat.{ℕ, zero, suc, ◌+◌, ◌-◌, ◌≤◌}
+use Prim.Native.Nat.{ℕ, ◌+◌, ◌-◌, ◌≤◌}
 use native.Mathlib.Omega.{arith}
 use lib.ListN.{length, take, drop, length-drop}
 use lib.Seq.{take_all}
 use Rattle.model.specs.Gate.{Net, Valid}
-use Rattle.model.specs.Image.{words, inputs_in, nodes_in, outs_in, span_in, body_of, words_of, end_from, net_in, net_of, refusal_of, sorted_refusal_of}
+use Rattle.model.specs.Image.{words, inputs_in, nodes_in, outs_in, span_in, body_of, words_of, end_from, net_in, net_of, refusal_of}
 use Rattle.shape.proofs.Accepted.{accepted}
 use Rattle.shape.proofs.Valids.{valid_net}
 use Rattle.shape.proofs.Ladder.{sorted_at0}
-use Rattle.image.specs.Reader.{frame_of, answer, checked_of, sorted_checked_of}
+use Rattle.std.specs.Prelude.{Result, Ok, Err}
+use Rattle.refusals.specs.Numbers.{number, unless}
+use Rattle.refusals.specs.declared.Refusal.{Refusal}
+use Rattle.refusals.proofs.Numbers.{number_above, unless_ok_number, unless_ok_value, unless_err, unless_number}
+use Rattle.image.specs.Reader.{frame_of, number_of}
 use Rattle.image.specs.declared.Frame.{Frame}
-use Rattle.image.specs.declared.Checked as checked
-use Rattle.image.specs.declared.Checked.TheVariants as checks
-use Rattle.image.proofs.Checks.{refused_number, sound_number}
 use Rattle.tables.specs.Layout.{net_size}
 use Rattle.tables.specs.Holding.{Holds}
 use Rattle.tables.specs.declared.counts.Counts.{Counts}
-use Rattle.load.specs.declared.Loaded.TheVariants.{Refused, Network}
 use Rattle.load_body.specs.Loading.{Loadable}
-use Rattle.load.specs.Images.{counts_of, loaded_as, AcceptedFrame, Counted, Read}
+use Rattle.load.specs.Images.{counts_of, AcceptedFrame, Counted, Read}
 
 -- ---- load_frame: i, n and o are the counts that it has widened
 
@@ -69,61 +70,35 @@ module _ (img : List ℕ) (f : Frame) (l : List ℕ) (A : AcceptedFrame img f l)
         → Counted img l' (record { inputs = i; nodes = n; outs = o })
     frame_counted l' H = record { counts = counts_are; holds = subst (λ (N : Net). Holds l' (record { inputs = i; nodes = n; outs = o }) N) net_is H }
 
--- ---- load_image and load_sorted: k is the number that refuses, without 7 or with it
+-- ---- load: k is the number that refuses, without 7 or with it
 
-refused_as : (k n : ℕ) (f : Frame) (c : Counts) → answer k f ≡ checks.Refused n → Refused n ≡ loaded_as k c
-refused_as zero n f c e = let z : ◌≡◌ {A = ℕ} 0 1 = cc in absurd (omega arith)
-refused_as (suc k) n f c e = let z : n ≡ suc k = cc in rw z
+none_before : (s : Bool) (img : List ℕ) → number_of s img ≡ 0 → refusal_of img ≡ 0
+none_before false img z = z
+none_before true img z = ((sorted_at0 img).0 z).0
 
-module _ (img : List ℕ) (k : ℕ) (r : checked.Checked) (e : r ≡ answer k (frame_of img)) where
-  refused : (n : ℕ) → r ≡ checks.Refused n → (l : List ℕ) → Read k img l (Refused n)
-  refused n q l = record {
-    answer = refused_as k n (frame_of img) (counts_of img) (sym e ∙ q);
-    holds = λ z. absurd (refused_number k n (frame_of img) (sym e ∙ q) z);
-  }
+module _ (img : List ℕ) (s : Bool) where
+  pub load_refused : (e x : Refusal) (r : Result Counts Refusal) → Err (number e) ≡ unless (number_of s img) (frame_of img) → r ≡ Err x → x ≡ e
+      → (l : List ℕ) → Read (number_of s img) img l r
+  load_refused e x r d p q l =
+      let n : number e ≡ number_of s img = unless_err (Err e) (number_of s img) (frame_of img) e d refl in
+      record {
+        answer = rw (p, q, ← n) (sym (unless_number e (counts_of img)));
+        holds = λ z. absurd (omega (arith, number_above e));
+      }
 
-  module _ (z : k ≡ 0 → refusal_of img ≡ 0) (f : Frame) (q : r ≡ checks.Sound f) where
-    passes : (k ≡ 0) × (f ≡ frame_of img)
-    passes = sound_number k (frame_of img) f (sym e ∙ q)
+  module _ (f : Frame) (e : Ok f ≡ unless (number_of s img) (frame_of img)) where
+    passes : number_of s img ≡ 0
+    passes = unless_ok_number (Ok f) (number_of s img) (frame_of img) f e refl
 
-    framed : (l : List ℕ) → net_size ≤ length l → AcceptedFrame img f l
-    framed l h = record { frame = passes.1; accepted = z passes.0; long = h }
-
-    network : (l' : List ℕ) (c : Counts) → Counted img l' c → Read k img l' (Network c)
-    network l' c C = record {
-      answer = rw passes.0 (ap Network C.counts);
-      holds = λ y. subst (λ (d : Counts). Holds l' d (net_of img)) C.counts C.holds;
+    pub load_framed : (l : List ℕ) → net_size ≤ length l → AcceptedFrame img f l
+    load_framed l h = record {
+      frame = unless_ok_value (Ok f) (number_of s img) (frame_of img) f e refl;
+      accepted = none_before s img passes;
+      long = h;
     }
 
-module _ (img : List ℕ) (r : checked.Checked) (e : r ≡ checked_of img) where
-  pub image_refused : (n : ℕ) → r ≡ checks.Refused n → (l : List ℕ) → Read (refusal_of img) img l (Refused n)
-  unfolding checked_of
-  image_refused = refused img (refusal_of img) r e
-
-  module _ (f : Frame) (q : r ≡ checks.Sound f) where
-    pub image_framed : (l : List ℕ) → net_size ≤ length l → AcceptedFrame img f l
-    unfolding checked_of
-    image_framed = framed img (refusal_of img) r e (λ z. z) f q
-
-    pub image_network : (l' : List ℕ) (c : Counts) → Counted img l' c → Read (refusal_of img) img l' (Network c)
-    unfolding checked_of
-    image_network = network img (refusal_of img) r e (λ z. z) f q
-
-module _ (img : List ℕ) (r : checked.Checked) (e : r ≡ sorted_checked_of img) where
-  below : sorted_refusal_of img ≡ 0 → refusal_of img ≡ 0
-  below z = ((sorted_at0 img).0 z).0
-
-  pub sorted_refused : (n : ℕ) → r ≡ checks.Refused n → (l : List ℕ) → Read (sorted_refusal_of img) img l (Refused n)
-  unfolding sorted_checked_of
-  sorted_refused = refused img (sorted_refusal_of img) r e
-
-  module _ (f : Frame) (q : r ≡ checks.Sound f) where
-    pub sorted_framed : (l : List ℕ) → net_size ≤ length l → AcceptedFrame img f l
-    unfolding sorted_checked_of
-    sorted_framed = framed img (sorted_refusal_of img) r e below f q
-
-    pub sorted_network : (l' : List ℕ) (c : Counts) → Counted img l' c → Read (sorted_refusal_of img) img l' (Network c)
-    unfolding sorted_checked_of
-    sorted_network = network img (sorted_refusal_of img) r e below f q
-
-pub ruleset accepts = (frame_start, frame_loadable, frame_counted, image_refused, image_framed, image_network, sorted_refused, sorted_framed, sorted_network)
+    pub load_network : (l' : List ℕ) (c : Counts) → Counted img l' c → Read (number_of s img) img l' (Ok c)
+    load_network l' c C = record {
+      answer = rw passes (ap Ok C.counts);
+      holds = λ y. subst (λ (d : Counts). Holds l' d (net_of img)) C.counts C.holds;
+    }

@@ -1,44 +1,40 @@
--- What `load_image` or `load_sorted` answered, for the work of an entry: k is the number that refuses.
-use mathlib.Core.Path.{◌≡◌, refl, sym, ap, ◌∙◌}
+-- What `load` answered, for the work of an entry: k is the number that refuses.
+use mathlib.Core.Path.{◌≡◌}
 use mathlib.Core.List.{List}
-use Prim.Native.Nat.{ℕ, zero, suc}
+use Prim.Native.Nat.{ℕ}
 use native.Mathlib.Omega.{arith}
 use borrow.Author.Tests.{ne_eqb}
 use Rattle.model.specs.Image.{net_of}
 use Rattle.model.specs.Answers.{Outcome, refused, unless}
 use Rattle.tables.specs.Holding.{Held, Holds}
 use Rattle.tables.specs.declared.counts.Counts.{Counts}
-use Rattle.load.specs.Images.{counts_of, loaded_as, Read}
-use Rattle.load.specs.declared.Loaded.{Loaded}
-use Rattle.load.specs.declared.Loaded.TheVariants.{Refused, Network}
+use Rattle.std.specs.Prelude.{Result, Ok, Err}
+use Rattle.refusals.specs.Numbers.{number}
+use Rattle.refusals.specs.declared.Refusal.{Refusal}
+use Rattle.refusals.proofs.Numbers.{number_above, unless_ok_number, unless_ok_value, unless_err}
+use Rattle.load.specs.Images.{counts_of, Read}
 
--- a number that refuses, and one that does not
-refused_by : (k n : ℕ) (c : Counts) → Refused n ≡ loaded_as k c → (o : Outcome) → unless k o ≡ refused n
-unfolding unless
-refused_by zero n c e o = let z : ◌≡◌ {A = ℕ} 0 1 = cc in absurd (omega arith)
-refused_by (suc k) n c e o = let z : suc k ≡ n = cc in rw (ne_eqb (suc k) 0 (λ q. omega arith)) (ap refused z)
+module _ (k : ℕ) (img l : List ℕ) (x : Result Counts Refusal) (R : Read k img l x) where
+  -- a number that refuses, and one that does not
+  pub refused_is : (e : Refusal) → x ≡ Err e → (o : Outcome) → unless k o ≡ refused (number e)
+  unfolding unless
+  refused_is e q o =
+      let n : number e ≡ k = unless_err x k (counts_of img) e R.answer q in
+      rw (← n, ne_eqb (number e) 0 (λ z. omega (arith, number_above e)))
 
-passes_by : (k : ℕ) (c d : Counts) → Network d ≡ loaded_as k c → (k ≡ 0) × (d ≡ c)
-passes_by zero c d e = (refl, cc)
-passes_by (suc k) c d e = let z : ◌≡◌ {A = ℕ} 0 1 = cc in absurd (omega arith)
-
-module _ (k : ℕ) (img l : List ℕ) (x : Loaded) (R : Read k img l x) where
-  pub refused_is : (n : ℕ) → x ≡ Refused n → (o : Outcome) → unless k o ≡ refused n
-  refused_is n q o = refused_by k n (counts_of img) (sym q ∙ R.answer) o
-
-  module _ (c : Counts) (q : x ≡ Network c) where
-    passes : (k ≡ 0) × (c ≡ counts_of img)
-    passes = passes_by k (counts_of img) c (sym q ∙ R.answer)
-
+  module _ (c : Counts) (q : x ≡ Ok c) where
     pub network_passes : k ≡ 0
-    network_passes = passes.0
+    network_passes = unless_ok_number x k (counts_of img) c R.answer q
+
+    counts_are : c ≡ counts_of img
+    counts_are = unless_ok_value x k (counts_of img) c R.answer q
 
     pub network_holds : Holds l c (net_of img)
-    network_holds = rw passes.1 (R.holds passes.0)
+    network_holds = rw counts_are (R.holds network_passes)
 
     pub network_held : Held l c
     network_held = network_holds.held
 
     pub network_is : (o : Outcome) → unless k o ≡ o
     unfolding unless
-    network_is o = rw passes.0
+    network_is o = rw network_passes

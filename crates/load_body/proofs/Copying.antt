@@ -1,5 +1,5 @@
 -- The loops that copy a body's words into an area, as its inputs and as its outputs: one law for each need.
-use Prim.Native.Nat.{ℕ, ◌+◌, ◌-◌, ◌/◌, ◌≤◌, ◌<◌}
+use Prim.Native.Nat.{ℕ, ◌+◌, ◌/◌, ◌≤◌, ◌<◌}
 use mathlib.Core.Path.{◌≡◌, refl, ap, ◌∙◌}
 use mathlib.Core.List.{List}
 use native.Mathlib.Omega.{arith}
@@ -37,9 +37,6 @@ module _ (b : List ℕ) (at : ℕ) (l : List ℕ) (first : ℕ) where
       pub inputs_room : (first + j < 2048) × (net_size ≤ length m)
       inputs_room = (omega (arith, P.room), rw I.1 P.long)
 
-      pub inputs_count : Fits w64 (j + 1)
-      inputs_count = record { fits = omega (arith, P.room) }
-
       pub inputs_next : (s : ℕ) (o : List ℕ) → s ≡ get_or (words b) (at + j) 0 → length o ≡ length m → o ≡ put_input m (first + j) s
           → (j + 1 ≤ n) × (length o ≡ length l) × (o ≡ put (j + 1))
       unfolding put_inputs word_from
@@ -72,9 +69,6 @@ module _ (b : List ℕ) (at : ℕ) (l : List ℕ) where
 
       pub outputs_room : (j < 64) × (net_size ≤ length m)
       outputs_room = (omega (arith, P.few), rw I.1 P.long)
-
-      pub outputs_count : Fits w64 (j + 1)
-      outputs_count = record { fits = omega (arith, P.few) }
 
       pub outputs_next : (s : ℕ) (o : List ℕ) → s ≡ get_or (words b) (at + j) 0 → length o ≡ length m → o ≡ put_output m j s
           → (j + 1 ≤ n) × (length o ≡ length l) × (o ≡ out (j + 1))

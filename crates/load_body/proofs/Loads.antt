@@ -3,7 +3,7 @@ use mathlib.Core.Path.{◌≡◌, refl, sym, ap, ◌∙◌}
 use mathlib.Core.Logic.{◌≢◌}
 use mathlib.Core.Bool.{Bool, true, false, cond}
 use mathlib.Core.List.{List}
-use Prim.Native.Nat.{ℕ, suc, ◌+◌, ◌-◌, ◌*◌, ◌/◌, ◌%◌, ◌^◌, ◌≤◌, ◌<◌}
+use Prim.Native.Nat.{ℕ, suc, ◌+◌, ◌*◌, ◌/◌, ◌%◌, ◌^◌, ◌≤◌, ◌<◌}
 use native.Mathlib.Omega.{arith}
 use native.Mathlib.Numerals.{add-one}
 use mir.Val.{Fits as FitsIn}
@@ -154,9 +154,6 @@ module _ (b l₀ : List ℕ) (n : ℕ) (R : Records b l₀ n) (l : List ℕ) (v 
       inside = rw L.next (omega (arith, R.inside, record_inside v (words b) n h));
       room = rw (L.next, L.free) (omega (arith, R.room, record_room v (words b) n h inside));
     }
-
-    pub loading_count : FitsIn w64 (v + 1)
-    loading_count = record { fits = omega (arith, R.few) }
 
     pub loading_next : (l' : List ℕ) (r : Place) → Placed b p l v l' r → Loading b l' (v + 1) r
     unfolding put_record

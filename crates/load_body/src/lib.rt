@@ -8,7 +8,7 @@ ghost use Rattle.tables.specs.Holding.{Holds};
 ghost use Rattle.load_body.specs.Loading.{word_from, Copies, Headed, Tabled, Fits, Placed, Records, Nodes, Outputs, Loadable};
 
 use tables::counts::Counts;
-use tables::layout::{put_gate, put_input, put_output, put_table, wide};
+use tables::layout::{put_gate, put_input, put_output, put_table};
 
 // Where the next record stands among the body's words, and its inputs in the area's table.
 #[derive(Clone, Copy)]
@@ -18,15 +18,14 @@ struct Place {
 }
 
 // The n words from `at` on, as the input words from `first` on.
+// stays: a twin of load_outputs but for the store, which tables alone knows; one function that is handed the store is no plainer.
 fn load_inputs(body: &[u8], at: usize, to: &mut [u32], first: usize, n: usize)
     requires { Copies body.now at to.old first n }
     ensures { to.new ≡ put_inputs to.old first (word_from (words body.now) at) n }
 {
-    let mut j: usize = 0;
-    while j < n {
+    for j in 0..n {
         let s = words::nth(body, at + j);
         put_input(to, first + j, s);
-        j += 1;
     }
 }
 
@@ -40,7 +39,7 @@ fn load_table(body: &[u8], at: usize, h: u32, to: &mut [u32], v: usize) -> usize
         put_table(to, v, 0, 0);
         return 0;
     }
-    let n = wide(h / 256);
+    let n = (h / 256) as usize;
     let low = words::nth(body, at + 1 + n);
     let high = words::nth(body, at + 2 + n);
     put_table(to, v, low, high);
@@ -52,10 +51,9 @@ fn load_gate(body: &[u8], p: Place, to: &mut [u32], v: usize) -> Place
     requires { Fits body.now p to.old v }
     ensures { Placed body.now p to.old v to.new result }
 {
-    let at = p.at;
-    let first = p.first;
+    let Place { at, first } = p;
     let h = words::nth(body, at);
-    let n = wide(h / 256);
+    let n = (h / 256) as usize;
     load_inputs(body, at + 1, to, first, n);
     put_gate(to, v, h % 256, first as u32, h / 256);
     let extra = load_table(body, at, h, to, v);
@@ -71,10 +69,8 @@ fn load_nodes(body: &[u8], to: &mut [u32], nodes: usize) -> usize
     ensures { Nodes body.now to.new nodes result }
 {
     let mut p = Place { at: 0, first: 0 };
-    let mut v: usize = 0;
-    while v < nodes {
+    for v in 0..nodes {
         p = load_gate(body, p, to, v);
-        v += 1;
     }
     p.at
 }
@@ -84,11 +80,9 @@ fn load_outputs(body: &[u8], at: usize, to: &mut [u32], outs: usize)
     requires { Outputs body.now at to.old outs }
     ensures { to.new ≡ put_outputs to.old (word_from (words body.now) at) outs }
 {
-    let mut j: usize = 0;
-    while j < outs {
+    for j in 0..outs {
         let s = words::nth(body, at + j);
         put_output(to, j, s);
-        j += 1;
     }
 }
 

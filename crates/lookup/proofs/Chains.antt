@@ -1,10 +1,12 @@
 -- The chains of the new nodes: what they hold, and the search down one of them.
-use Prim.Native.Nat.{ℕ, zero, suc, ◌+◌, ◌-◌, ◌*◌, ◌/◌, ◌%◌, ◌^◌, ◌≤◌, ◌<◌}
+use Prim.Native.Nat.{ℕ, zero, suc, ◌+◌, ◌*◌, ◌/◌, ◌%◌, ◌^◌, ◌≤◌, ◌<◌}
 use mathlib.Core.Path.{◌≡◌, refl, sym, ap, ap₂, ◌∙◌}
 use mathlib.Core.Logic.{◌≢◌}
 use mathlib.Core.Bool.{Bool, true, false, cond}
 use mathlib.Core.List.{List, [], ◌∷◌, ◌++◌}
 use mathlib.Core.Option.{Option, none, some}
+use Rattle.std.specs.Prelude.{Some, None}
+use Rattle.std.specs.Prelude as core
 use native.Mathlib.Omega.{arith}
 use native.Mathlib.Nat.{le_refl, le_antisymm}
 use native.Mathlib.Decide.{ℕ_discrete}
@@ -12,8 +14,6 @@ use native.Mathlib.Numerals.{add-one}
 use lib.ListN.{length, get_or}
 use lib.Dec.{eqb}
 use borrow.Author.Tests.{eq-eqb, ne_eqb}
-use mir.Val.{Fits}
-use mir.Syntax.{w64}
 use Rattle.laws.specs.Lists.{tab}
 use Rattle.laws.proofs.Tabs.{length_tab, get_or_tab}
 use Rattle.laws.proofs.Choices.{by_bool, by_eq}
@@ -24,11 +24,10 @@ use Rattle.tables.specs.Layout.{gate_at, nodes_of, cell, store}
 use Rattle.tables.proofs.Places.{length_store, cell_store, cell_store_other}
 use Rattle.tables.proofs.Building.{nodes_of_next, nodes_of_none}
 use Rattle.tables.proofs.Holding.{length_nodes_of}
+use Rattle.same_gate.specs.declared.Sought.{Sought}
 use Rattle.same_gate.specs.Listed.{list_base, listed}
-use Rattle.lookup.specs.Lists.{filled, as_option}
-use Rattle.lookup.specs.Chains.{stir, stirred, bucket_of, buckets_of, last_in, head_base, link_base, Chained, joined, emptied, Seeks}
-use Rattle.lookup.specs.declared.find.Found.{Found}
-use Rattle.lookup.specs.declared.find.Found.TheVariants.{At, Nothing}
+use Rattle.lookup.specs.Lists.{as_option, counted}
+use Rattle.lookup.specs.Chains.{stir, stirred, bucket_of, buckets_of, last_in, head_base, link_base, Chained, joined, Seeks}
 use Rattle.same_gate.proofs.Searches.{find_none, find_some, find_here}
 
 -- ---- the bucket of a gate
@@ -54,13 +53,14 @@ bucket_small g =
     omega (arith, stir_small (stirred g.kind (λ j. get_or g.ins j 0) (length g.ins)) (g.table % 4294967291))
 
 -- of the gate in the list
-pub bucket_listed : (l : List ℕ) (k n lo hi : ℕ) → stir (stirred k (cell l list_base) n) ((lo + 2 ^ 32 * hi) % 4294967291) / 16777216 ≡ bucket_of (listed l k n lo hi)
+pub bucket_listed : (l : List ℕ) (g : Sought)
+    → stir (stirred g.kind (cell l list_base) g.n) ((g.low + 2 ^ 32 * g.high) % 4294967291) / 16777216 ≡ bucket_of (listed l g)
 unfolding bucket_of listed
-bucket_listed l k n lo hi =
-    let t = tab (cell l list_base) n in
-    let e : stirred k (λ j. get_or t j 0) (length t) ≡ stirred k (cell l list_base) n =
-    ap (stirred k (λ j. get_or t j 0)) (length_tab (cell l list_base) n) ∙ stirred_same k _ _ n (λ j q. get_or_tab (cell l list_base) n j 0 q) in
-    sym (ap (λ (a : ℕ). stir a ((lo + 2 ^ 32 * hi) % 4294967291) / 16777216) e)
+bucket_listed l g =
+    let t = tab (cell l list_base) g.n in
+    let e : stirred g.kind (λ j. get_or t j 0) (length t) ≡ stirred g.kind (cell l list_base) g.n =
+    ap (stirred g.kind (λ j. get_or t j 0)) (length_tab (cell l list_base) g.n) ∙ stirred_same g.kind _ _ g.n (λ j q. get_or_tab (cell l list_base) g.n j 0 q) in
+    sym (ap (λ (a : ℕ). stir a ((g.low + 2 ^ 32 * g.high) % 4294967291) / 16777216) e)
 
 -- the loop
 module _ (l : List ℕ) (k n : ℕ) (P : (16384 ≤ length l) × (n ≤ 2048)) where
@@ -81,30 +81,6 @@ module _ (l : List ℕ) (k n : ℕ) (P : (16384 ≤ length l) × (n ≤ 2048)) w
 
     pub stir_end : n ≤ j → a ≡ stirred k (cell l list_base) n
     stir_end h = I.2 ∙ ap (stirred k (cell l list_base)) (le_antisymm I.0 h)
-
--- ---- the chains emptied
-
-module _ (l : List ℕ) where
-  abbrev Emptying : List ℕ → ℕ → Type 0
-  Emptying m h = (h ≤ 256) × (length m ≡ length l) × (m ≡ emptied l h)
-
-  pub empty_none : Emptying l 0
-  unfolding filled
-  empty_none = (omega arith, refl, refl)
-
-  module _ (m : List ℕ) (h : ℕ) (I : Emptying m h) where
-    pub empty_word : 16384 ≤ length l → h < 256 → head_base + h < length m
-    empty_word z q = omega (arith, I.1)
-
-    pub empty_count : h < 256 → Fits w64 (h + 1)
-    empty_count q = record { fits = omega arith }
-
-    pub empty_next : h < 256 → (o : List ℕ) → length o ≡ length m → o ≡ store m head_base h 0 → Emptying o (h + 1)
-    unfolding filled
-    empty_next q o k eo = (omega arith, k ∙ I.1, rw add-one (eo ∙ ap (λ (x : List ℕ). store x head_base h 0) I.2))
-
-    pub empty_end : 256 ≤ h → m ≡ emptied l 256
-    empty_end q = I.2 ∙ ap (emptied l) (le_antisymm I.0 q)
 
 -- ---- the last node of a bucket
 
@@ -189,20 +165,15 @@ module _ (l : List ℕ) (n h : ℕ) (z : 16384 ≤ length l) (c : Chained l n) (
 
 -- ---- the search down a chain
 
--- a node counted from 1, or none
-abbrev counted : ℕ → Option ℕ
-counted zero = none
-counted (suc w) = some w
-
 abbrev or_else : Option ℕ → Option ℕ → Option ℕ
 or_else none r = r
 or_else (some j) r = some j
 
 -- of n nodes those from p on are looked through, and the first of them that is g is `found`
-pub record Seeking (l : List ℕ) (n h : ℕ) (g : Gate) (p found : ℕ) : Type 0 where
+pub record Seeking (l : List ℕ) (n h : ℕ) (g : Gate) (p : ℕ) (found : core.Option ℕ) : Type 0 where
   pub inside : p ≤ n
   pub belongs : (w : ℕ) → p ≡ suc w → buckets_of l w ≡ h
-  pub rest : find_gate g (nodes_of l n) ≡ or_else (find_gate g (nodes_of l p)) (counted found)
+  pub rest : find_gate g (nodes_of l n) ≡ or_else (find_gate g (nodes_of l p)) (as_option found)
 
 module _ (g : Gate) (l : List ℕ) where
   find_skip : (h : Gate) (s : List Gate) → same_gate g h ≡ false → find_gate g (s ++ (h ∷ [])) ≡ find_gate g s
@@ -223,11 +194,12 @@ module _ (g : Gate) (l : List ℕ) where
   ]
 
   -- the node before, if it is the gate, comes before what was found behind it
-  find_turn : (w : ℕ) (t : Bool) (r : ℕ) → t ≡ same_gate g (gate_at l w) → or_else (find_gate g (nodes_of l (suc w))) (counted r) ≡ or_else (find_gate g (nodes_of l w)) (counted (cond t (suc w) r))
-  find_turn w t r e = ap (λ (x : List Gate). or_else (find_gate g x) (counted r)) (nodes_of_next l w) ∙ go (find_gate g (nodes_of l w)) refl t e
+  find_turn : (w : ℕ) (t : Bool) (r : core.Option ℕ) → t ≡ same_gate g (gate_at l w)
+      → or_else (find_gate g (nodes_of l (suc w))) (as_option r) ≡ or_else (find_gate g (nodes_of l w)) (as_option (cond t (Some w) r))
+  find_turn w t r e = ap (λ (x : List Gate). or_else (find_gate g x) (as_option r)) (nodes_of_next l w) ∙ go (find_gate g (nodes_of l w)) refl t e
     where
       go : (f : Option ℕ) → find_gate g (nodes_of l w) ≡ f → (t : Bool) → t ≡ same_gate g (gate_at l w)
-          → or_else (find_gate g (nodes_of l w ++ (gate_at l w ∷ []))) (counted r) ≡ or_else (find_gate g (nodes_of l w)) (counted (cond t (suc w) r))
+          → or_else (find_gate g (nodes_of l w ++ (gate_at l w ∷ []))) (as_option r) ≡ or_else (find_gate g (nodes_of l w)) (as_option (cond t (Some w) r))
       go (some j) q t e = rw (find_some g (gate_at l w) (nodes_of l w) j q, q)
       go none q true e = rw (find_here g (gate_at l w) (nodes_of l w) q (sym e), q) (ap some (length_nodes_of l w))
       go none q false e = rw (find_none g (gate_at l w) (nodes_of l w) q (sym e), q)
@@ -239,7 +211,7 @@ module _ (g : Gate) (l : List ℕ) where
     pub seek_small : h < 256
     seek_small = rw S.bucket (bucket_small g)
 
-    pub seek_start : (p : ℕ) → p ≡ cell l head_base h → Seeking l n h g p 0
+    pub seek_start : (p : ℕ) → p ≡ cell l head_base h → Seeking l n h g p None
     seek_start p e =
         let q : p ≡ last_in (buckets_of l) h n = e ∙ S.chained.heads h seek_small in
         rw q (record {
@@ -252,39 +224,32 @@ module _ (g : Gate) (l : List ℕ) where
         or_none none = refl
         or_none (some j) = refl
 
-    module _ (p r : ℕ) (K : Seeking l n h g p r) where
-      module _ (more : 0 < p) (q : ℕ) (e : q ≡ cell l link_base (p - 1)) where
-        next_is : q ≡ last_in (buckets_of l) h (p - 1)
-        next_is =
-            let i = K.inside in
-            e ∙ S.chained.links (p - 1) (omega arith) ∙ ap (λ (b : ℕ). last_in (buckets_of l) b (p - 1)) (K.belongs (p - 1) (omega arith))
+    -- at node w
+    module _ (at : core.Option ℕ) (w : ℕ) (is : at ≡ Some w) (r : core.Option ℕ) (K : Seeking l n h g (counted at) r) where
+      inside : w < n
+      inside = let i = K.inside in rw is at i
+
+      module _ (q : ℕ) (e : q ≡ cell l link_base w) where
+        next_is : q ≡ last_in (buckets_of l) h w
+        next_is = e ∙ S.chained.links w inside ∙ ap (λ (b : ℕ). last_in (buckets_of l) b w) (K.belongs w (ap counted is))
 
         -- numbers fall down a chain
-        pub seek_less : q < p
-        seek_less = let i = last_in_inside (buckets_of l) h (p - 1) in omega (arith, next_is)
+        pub seek_less : q < counted at
+        seek_less = rw is (omega (arith, next_is, last_in_inside (buckets_of l) h w))
 
-        pub seek_next : (t : Bool) (s : ℕ) → t ≡ same_gate g (gate_at l (p - 1)) → s ≡ cond t p r → Seeking l n h g q s
+        pub seek_next : (t : Bool) (s : core.Option ℕ) → t ≡ same_gate g (gate_at l w) → s ≡ cond t (Some w) r → Seeking l n h g q s
         seek_next t s et es =
-            let i = K.inside in
-            let a = last_in_inside (buckets_of l) h (p - 1) in
-            let up : p ≡ suc (p - 1) = omega arith in
-            let turn : or_else (find_gate g (nodes_of l p)) (counted r) ≡ or_else (find_gate g (nodes_of l (p - 1))) (counted s) =
-            ap (λ (x : ℕ). or_else (find_gate g (nodes_of l x)) (counted r)) up ∙ find_turn (p - 1) t r et ∙ ap (λ (x : ℕ). or_else (find_gate g (nodes_of l (p - 1))) (counted x)) (ap (λ (x : ℕ). cond t x r) (sym up) ∙ sym es) in
+            let i = inside in
+            let a = last_in_inside (buckets_of l) h w in
+            let turn : or_else (find_gate g (nodes_of l (counted at))) (as_option r) ≡ or_else (find_gate g (nodes_of l w)) (as_option s) =
+            ap (λ (x : core.Option ℕ). or_else (find_gate g (nodes_of l (counted x))) (as_option r)) is ∙ find_turn w t r et ∙ ap (λ (x : core.Option ℕ). or_else (find_gate g (nodes_of l w)) (as_option x)) (sym es) in
             rw next_is (record {
               inside = omega arith;
-              belongs = last_in_belongs (buckets_of l) h (p - 1);
-              rest = K.rest ∙ turn ∙ ap (λ (x : Option ℕ). or_else x (counted s)) (below (p - 1));
+              belongs = last_in_belongs (buckets_of l) h w;
+              rest = K.rest ∙ turn ∙ ap (λ (x : Option ℕ). or_else x (as_option s)) (below w);
             })
 
-      module _ (done : p ≤ 0) where
-        all_met : find_gate g (nodes_of l n) ≡ counted r
-        unfolding find_gate
-        all_met =
-            let z : p ≡ 0 = omega arith in
-            K.rest ∙ ap (λ (x : List Gate). or_else (find_gate g x) (counted r)) (ap (nodes_of l) z ∙ nodes_of_none l)
-
-        pub seek_nothing : (f : Found) → f ≡ Nothing → r ≡ 0 → as_option f ≡ find_gate g (nodes_of l n)
-        seek_nothing f ef e = ap as_option ef ∙ ap counted (sym e) ∙ sym all_met
-
-        pub seek_found : (w : ℕ) (f : Found) → f ≡ At w → r ≢ 0 → w ≡ r - 1 → as_option f ≡ find_gate g (nodes_of l n)
-        seek_found w f ef d e = let s : suc w ≡ r = omega arith in ap as_option ef ∙ ap counted s ∙ sym all_met
+    -- all are met
+    pub seek_end : (at r : core.Option ℕ) → at ≡ None → Seeking l n h g (counted at) r → as_option r ≡ find_gate g (nodes_of l n)
+    unfolding find_gate
+    seek_end at r e K = sym (K.rest ∙ ap (λ (x : core.Option ℕ). or_else (find_gate g (nodes_of l (counted x))) (as_option r)) e ∙ ap (λ (x : List Gate). or_else (find_gate g x) (as_option r)) (nodes_of_none l))

@@ -3,7 +3,7 @@ use Rattle.std.specs.Prelude.{ℕ, zero, suc, ◌+◌, ◌*◌, ◌/◌, ◌%◌
 use Rattle.model.specs.Gate.{Gate}
 use Rattle.tables.specs.Layout.{gate_at, cell, store}
 use Rattle.same_gate.specs.Listed.{Searched}
-use Rattle.lookup.specs.Lists.{filled}
+use Rattle.translation.specs.Tables.{cleared_table}
 
 -- Only speed hangs on the numbers: an odd factor, near 2 ^ 30 / 1.618, spreads a word over the high bits; 4294967291 is prime.
 -- one word more stirred into a number below 2 ^ 32
@@ -45,7 +45,7 @@ joined l v h = store (store l link_base v (cell l head_base h)) head_base h (v +
 
 -- l with n chains empty
 abbrev pub emptied : List ℕ → ℕ → List ℕ
-emptied l n = filled l head_base (λ h. 0) n
+emptied l n = cleared_table l head_base n
 
 -- asked of a search for g among n nodes
 pub record Seeks (l : List ℕ) (n h : ℕ) (g : Gate) : Type 0 where

@@ -1,4 +1,4 @@
-// The new nodes of dedup by a hash: chains of those in one bucket, and the first node whose gate is the one in the list.
+// The new nodes of dedup by a hash: chains of those in one bucket, and the first node whose gate is the one sought.
 #![tactic(auto)]
 
 pub mod chain;

@@ -7,30 +7,29 @@ ghost use Rattle.gates.specs.Normals.{normal_of};
 
 use gates::binary::make_and;
 use gates::order::sort_3;
-use gates::{Normalization, made_3};
+use gates::{Normalization, made};
 use kinds::Kind;
 use signal::Signal;
 
 // Normalize a Maj. The least signal's inversion falls at the call: the order does not change, since signals that differ by
 // their sign alone were met before.
+#[tactic(auto, unfolding(gates::specs::Normals::normal_of, model::specs::Normal::make_maj, model::specs::Normal::maj_sorted, model::specs::Normal::maj_plain, model::specs::Normal::made3))]
 pub fn make_maj(a: Signal, b: Signal, c: Signal, inv: bool, list: &mut [u32]) -> Normalization
     requires { 3 ≤ length list.old }
     ensures { normal_of result list.new ≡ make_maj a.a b.a c.a inv }
 {
-    let s = sort_3(a, b, c);
-    let n1 = s.mid.not();
-    let n2 = s.high.not();
-    if (s.low.a == n1.a) | (s.mid.a == s.high.a) {
-        return Normalization::Copy(s.high.xor(inv));
+    let (i0, i1, i2) = sort_3(a, b, c);
+    if (i0 == !i1) | (i1 == i2) {
+        return Normalization::Copy(i2 ^ inv);
     }
-    if (s.mid.a == n2.a) | (s.low.a == s.mid.a) {
-        return Normalization::Copy(s.low.xor(inv));
+    if (i1 == !i2) | (i0 == i1) {
+        return Normalization::Copy(i0 ^ inv);
     }
-    if s.low.is_inverted() {
-        return make_maj(s.low.not(), n1, n2, !inv, list);
+    if i0.is_inverted() {
+        return make_maj(!i0, !i1, !i2, !inv, list);
     }
-    if s.low.a == 0 {
-        return make_and(s.mid, s.high, inv, list);
+    if i0 == Signal::ZERO {
+        return make_and(i1, i2, inv, list);
     }
-    made_3(Kind::Maj, s.low, s.mid, s.high, inv, list)
+    made(Kind::Maj, [i0, i1, i2], inv, list)
 }

@@ -8,15 +8,15 @@ use lib.ListN.{length, take, drop}
 use lib.Seq.{take-append_seam}
 use lib.Dec.{eqb, leb}
 use borrow.Author.Tests.{eqb-true, eq-eqb, ne_eqb, leb-true, le-leb}
-use Rattle.answers.specs.declared.Answer.{Answer}
-use Rattle.answers.specs.declared.Answer.TheVariants.{Accepted}
+use Rattle.model.specs.Answers.{Answer}
+use Rattle.std.specs.Prelude.{Ok}
 use Rattle.laws.proofs.Bools.{and_left, and_right}
 use Rattle.laws.proofs.Choices.{by_bool}
 use Rattle.model.specs.Answers.{Outcome, refused, written, evaluated, answer_of, laid_over, areas_short, in_areas, unless, in_room, Kept, Kept2}
 
 -- the outcome answers acceptance, with a length
 abbrev pub Answered : Outcome → ℕ → Type 0
-Answered o n = answer_of o ≡ Accepted n
+Answered o n = answer_of o ≡ Ok n
 
 -- where C holds the outcome is to write this image and this mapping, and it accepts nowhere else
 pub record Writes (o : Outcome) (image mapping : List ℕ) (C : Type 0) : Type 0 where
@@ -92,16 +92,16 @@ pub record Found (C : Type 0) (image : List ℕ) (n : ℕ) (out' : List ℕ) : T
   pub there : take n out' ≡ image
 
 module _ (o : Outcome) (image mapping : List ℕ) (C : Type 0) (w : Writes o image mapping C) (out a b : List ℕ) (r : Answer) (out' a' b' : List ℕ) where
-  pub kept_found : Kept o out a b r out' a' b' → (n : ℕ) → r ≡ Accepted n → Found C image n out'
+  pub kept_found : Kept o out a b r out' a' b' → (n : ℕ) → r ≡ Ok n → Found C image n out'
   kept_found k n e =
       let g : Answered o n = sym k.answer ∙ e in
       let c = w.asks n g in
       let is : o ≡ written image mapping = w.gives c in
-      let l : n ≡ length image = let q : Accepted (length image) ≡ Accepted n = rw is at g in cc in
+      let l : n ≡ length image = let q : Ok (length image) ≡ Ok n = rw is at g in cc in
       record { held = c; long = l; there = rw (k.result, is, l) (front image out) }
 
   -- and the front of the buffer lent for the mapping
-  pub kept2_found : (second second' : List ℕ) → Kept2 o out second a b r out' second' a' b' → (n : ℕ) → r ≡ Accepted n
+  pub kept2_found : (second second' : List ℕ) → Kept2 o out second a b r out' second' a' b' → (n : ℕ) → r ≡ Ok n
       → Found C image n out' × (take (length mapping) second' ≡ mapping)
   kept2_found second second' k n e =
       let f = kept_found k.first n e in

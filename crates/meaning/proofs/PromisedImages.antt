@@ -8,8 +8,8 @@ use lib.ListN.{length, get_or, take}
 use lib.Seq.{get_or-take}
 use lib.Dec.{ltb}
 use borrow.Author.Tests.{ltb-false, le-ltb}
-use Rattle.answers.specs.declared.Answer.{Answer}
-use Rattle.answers.specs.declared.Answer.TheVariants.{Accepted}
+use Rattle.model.specs.Answers.{Answer}
+use Rattle.std.specs.Prelude.{Ok}
 use Rattle.laws.proofs.Tabs.{length_tab, get_or_tab}
 use Rattle.model.specs.Gate.{Gate, Net, Valid, is_topo_sorted, size}
 use Rattle.model.specs.Normal.{Norm, make_canonical}
@@ -188,7 +188,7 @@ module _ (img : List ℕ) (C : Type 0) (N' : Net) (good : Valid (net_of img) →
 
 -- ---- flatten, factor and share, from their contracts
 
-module _ (img out a b : List ℕ) (r : Answer) (out' a' b' : List ℕ) (n : ℕ) (e : r ≡ Accepted n) where
+module _ (img out a b : List ℕ) (r : Answer) (out' a' b' : List ℕ) (n : ℕ) (e : r ≡ Ok n) where
   pub flatten_wrote : (limit : ℕ) → Kept (flatten_outcome img out a b limit) out a b r out' a' b'
       → Wrote img (flattened_inputs (net_of img) limit ≤ 2048) (flatten_nary (net_of img) limit) n out'
   flatten_wrote limit k =
@@ -227,7 +227,7 @@ pub record WroteMapped (img : List ℕ) (k : ℕ) (C : Type 0) (N' : Net) (τ : 
   pub holds : Holds (take n out') N'
   pub words : (v : ℕ) → v < size (net_of img) → get_or map' v 0 ≡ τ v
 
-module _ (img out map a b : List ℕ) (r : Answer) (out' map' a' b' : List ℕ) (n : ℕ) (e : r ≡ Accepted n) where
+module _ (img out map a b : List ℕ) (r : Answer) (out' map' a' b' : List ℕ) (n : ℕ) (e : r ≡ Ok n) where
   -- an entry with the outcome o, the image's numbers k, the result N' and the mapping τ
   found_mapped : (o : Outcome) (k : ℕ) (C : Type 0) (N' : Net) (τ : ℕ → ℕ)
       → Writes o (image_of N') (mapping_of (size (net_of img)) τ) (Mapped img out map a b k C N' τ)

@@ -7,8 +7,8 @@ use mathlib.Core.Bool.{Bool, true, false, ◌&&◌}
 use mathlib.Core.List.{List}
 use lib.ListN.{length, get_or, take}
 use lib.Dec.{leb}
-use Rattle.answers.specs.declared.Answer.{Answer}
-use Rattle.answers.specs.declared.Answer.TheVariants.{Accepted, Refused}
+use Rattle.model.specs.Answers.{Answer}
+use Rattle.std.specs.Prelude.{Ok, Err}
 use Rattle.laws.proofs.Choices.{by_bool}
 use Rattle.model.specs.Gate.{Gate, Net, is_topo_sorted, size}
 use Rattle.model.specs.Normal.{Norm, make_canonical}
@@ -52,7 +52,7 @@ carried img k C N' τ n out' map' w ev K sorted inside runs values = record {
 }
 
 -- an entry was called with img, out, map, a and b, and accepted with length n
-module _ (img out map a b : List ℕ) (r : Answer) (out' map' a' b' : List ℕ) (n : ℕ) (accepts : r ≡ Accepted n) where
+module _ (img out map a b : List ℕ) (r : Answer) (out' map' a' b' : List ℕ) (n : ℕ) (accepts : r ≡ Ok n) where
   abbrev N : Net
   N = net_of img
 
@@ -88,12 +88,12 @@ module _ (img out map a b : List ℕ) (r : Answer) (out' map' a' b' : List ℕ) 
 -- ---- 8, from sort's contract
 
 -- in room or not, what is written is not refused with 8
-written_not_8 : {X : Type 0} (room map-room : ℕ) (image mapping : List ℕ) → answer_of (in_room room map-room (written image mapping)) ≡ Refused 8 → X
+written_not_8 : {X : Type 0} (room map-room : ℕ) (image mapping : List ℕ) → answer_of (in_room room map-room (written image mapping)) ≡ Err 8 → X
 written_not_8 room map-room image mapping e = by_bool (leb (length image) room && leb (length mapping) map-room)
-    (λ t. let q : Accepted (length image) ≡ Refused 8 = rw t at e in let z : ◌≡◌ {A = ℕ} 0 1 = cc in absurd (omega arith))
-    (λ t. let q : Refused 13 ≡ Refused 8 = rw t at e in let z : ◌≡◌ {A = ℕ} 13 8 = cc in absurd (omega arith))
+    (λ t. let q : Ok (length image) ≡ Err 8 = rw t at e in let z : ◌≡◌ {A = ℕ} 0 1 = cc in absurd (omega arith))
+    (λ t. let q : Err 13 ≡ Err 8 = rw t at e in let z : ◌≡◌ {A = ℕ} 13 8 = cc in absurd (omega arith))
 
-pub sort_8 : (img out map a b : List ℕ) → areas_short a b ≡ false → refusal_of img ≡ 0 → (answer_of (sort_outcome img out map a b) ≡ Refused 8) ↔ (sorts (net_of img) ≡ false)
+pub sort_8 : (img out map a b : List ℕ) → areas_short a b ≡ false → refusal_of img ≡ 0 → (answer_of (sort_outcome img out map a b) ≡ Err 8) ↔ (sorts (net_of img) ≡ false)
 unfolding sort_outcome in_areas unless
 sort_8 img out map a b long sound =
     let N = net_of img in

@@ -10,6 +10,7 @@ use mir.Val.{Fits}
 use lib.ListN.{drop, get_or, length, length-append, length-drop, drop_of_length-le}
 use lib.Seq.{drop-cons}
 use lib.Dec.{leb}
+use Rattle.std.specs.Prelude.{Option, Some, None}
 use Rattle.merge_dependencies.specs.Pushing.{Becoming, Merges, Pushes, put_words}
 use Rattle.kinds.specs.declared.Family.{Family}
 use Rattle.model.specs.Gate.{Gate}
@@ -23,8 +24,6 @@ use Rattle.shape.proofs.Flatten.{merge_grows}
 use Rattle.shape.proofs.Wires.{names_below}
 use Rattle.tables.proofs.Holding.{get_or_ins_at, length_ins_at}
 use Rattle.merge_dependencies.proofs.Words.{behind_fits, behind_is, behind_le, behind_none, behind_over, gate_at_put_words, packed_put_words, put_words_append}
-use Rattle.merge_dependencies.specs.declared.Pushed.{Pushed}
-use Rattle.merge_dependencies.specs.declared.Pushed.TheVariants.{To, Full}
 
 -- ---- gates that agree where they are named
 
@@ -105,7 +104,7 @@ module _ (f : Family) (from l₀ : List ℕ) (v limit start : ℕ) (M : Merges f
           abbrev became : List ℕ
           became = opened f (gate_at l₀) limit (length inv.ret + length (drop (suc j) (ins_at from v))) s (ref s)
 
-          module _ (m : List ℕ) (r : Pushed) (P : Pushes l m at (opened f (gate_at l) limit (at - start + (n - j - 1)) s (ref s)) r) where
+          module _ (m : List ℕ) (r : Option ℕ) (P : Pushes l m at (opened f (gate_at l) limit (at - start + (n - j - 1)) s (ref s)) r) where
             became_is : opened f (gate_at l) limit (at - start + (n - j - 1)) s (ref s) ≡ became
             became_is =
                 let a = length_ins_at from v in
@@ -123,9 +122,9 @@ module _ (f : Family) (from l₀ : List ℕ) (v limit start : ℕ) (M : Merges f
                 inv.rest
                 ∙ ap (λ x. merge_dependencies f (gate_at l₀) limit x inv.ret) (drop-cons (ins_at from v) j 0 (omega arith) ∙ ap (λ x. x ∷ drop (suc j) (ins_at from v)) signal_is)
 
-            pub gather_next : (k : ℕ) → r ≡ To k → length m ≡ length l → Gathered f from l₀ m v limit start k (j + 1)
+            pub gather_next : (k : ℕ) → r ≡ Some k → length m ≡ length l → Gathered f from l₀ m v limit start k (j + 1)
             gather_next k e len =
-                let q : To k ≡ _ = sym e ∙ pushed.answer in
+                let q : Some k ≡ _ = sym e ∙ pushed.answer in
                 let le = behind_le at (length became) k q in
                 let a = length-append inv.ret became in
                 record {
@@ -138,7 +137,7 @@ module _ (f : Family) (from l₀ : List ℕ) (v limit start : ℕ) (M : Merges f
                   rest = rw (add-one j) rest_is;
                 }
 
-            pub gather_full : r ≡ Full → Pushes l₀ m start (merge_dependencies f (gate_at l₀) limit (ins_at from v) []) Full
+            pub gather_full : r ≡ None → Pushes l₀ m start (merge_dependencies f (gate_at l₀) limit (ins_at from v) []) None
             gather_full e =
                 let ws = merge_dependencies f (gate_at l₀) limit (ins_at from v) [] in
                 let over = behind_over at (length became) (sym e ∙ pushed.answer) in
@@ -148,7 +147,7 @@ module _ (f : Family) (from l₀ : List ℕ) (v limit start : ℕ) (M : Merges f
                 let q : 2048 < start + length ws = omega (arith, inv.place) in
                 record { answer = sym (behind_none start (length ws) q); words = λ p. absurd (omega arith) }
 
-    pub gather_end : n ≤ j → Pushes l₀ l start (merge_dependencies f (gate_at l₀) limit (ins_at from v) []) (To at)
+    pub gather_end : n ≤ j → Pushes l₀ l start (merge_dependencies f (gate_at l₀) limit (ins_at from v) []) (Some at)
     unfolding merge_dependencies
     gather_end h =
         let a = length_ins_at from v in

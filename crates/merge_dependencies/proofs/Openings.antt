@@ -9,6 +9,7 @@ use mir.Val.{Fits}
 use lib.ListN.{length}
 use lib.Dec.{leb}
 use borrow.Author.Tests.{not-true}
+use Rattle.std.specs.Prelude.{Option}
 use Rattle.merge_dependencies.specs.Pushing.{Becoming, Opening, Pushes, Reading, opens}
 use Rattle.kinds.specs.Kinds.{in_family, kind_of}
 use Rattle.kinds.specs.declared.Family.{Family}
@@ -21,7 +22,6 @@ use Rattle.laws.proofs.Bools.{and_assoc, and_left}
 use Rattle.laws.proofs.Choices.{by_bool}
 use Rattle.shape.proofs.Wires.{Other, an_input, is_zero, other_names, var_low, var_names}
 use Rattle.tables.proofs.Holding.{length_ins}
-use Rattle.merge_dependencies.specs.declared.Pushed.{Pushed}
 
 -- ---- opens
 
@@ -90,12 +90,12 @@ module _ (l : List ℕ) (v s used at : ℕ) (P : Becoming l v s used at) where
         pub one_reading : Reading l v w at
         one_reading = record { packed = P.packed; below = let q = P.opening.below is_var_lem in omega arith }
 
-        pub one_opened : (m : List ℕ) (r : Pushed) → Pushes l m at (ins_at l w) r → Pushes l m at (opened f (gate_at l) limit used s (ref s)) r
+        pub one_opened : (m : List ℕ) (r : Option ℕ) → Pushes l m at (ins_at l w) r → Pushes l m at (opened f (gate_at l) limit used s (ref s)) r
         one_opened m r q =
             let e : s / 2 - 1 ≡ w = sym (ew ∙ ex) in
             rw (opened_is f (gate_at l) limit used s, ← eb, h, e, ins_gate l w) q
 
-    pub one_kept : b ≡ false → (m : List ℕ) (r : Pushed) → Pushes l m at (s ∷ []) r → Pushes l m at (opened f (gate_at l) limit used s (ref s)) r
+    pub one_kept : b ≡ false → (m : List ℕ) (r : Option ℕ) → Pushes l m at (s ∷ []) r → Pushes l m at (opened f (gate_at l) limit used s (ref s)) r
     one_kept h m r q = rw (opened_is f (gate_at l) limit used s, ← eb, h) q
 
 pub ruleset ones = (one_low, one_reading, one_opened, one_kept)

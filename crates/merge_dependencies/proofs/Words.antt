@@ -8,18 +8,16 @@ use lib.ListN.{get_or, length}
 use lib.Seq.{take-length}
 use lib.Dec.{leb}
 use borrow.Author.Tests.{le-leb, leb-false, leb-true, lt-leb}
-use Rattle.copying.specs.Copies.{Copies, inputs_from}
-use Rattle.merge_dependencies.specs.Pushing.{Pushes, Reading, Within, behind, put_words}
+use Rattle.std.specs.Prelude.{Some, None}
+use Rattle.merge_dependencies.specs.Pushing.{Pushes, Reading, behind, put_words}
 use Rattle.laws.specs.Lists.{tab}
-use Rattle.tables.specs.Building.{Packed, put_inputs}
+use Rattle.tables.specs.Building.{CopiesInputs, Packed, inputs_from, put_inputs}
 use Rattle.tables.specs.Layout.{count_at, first_at, gate_at, input_at, ins_at, put_input}
-use Rattle.copying.proofs.Copied.{Copying, copy_end, copy_long, copy_read, copy_read_fits, copy_start, copy_step, copy_write, copy_write_fits}
 use Rattle.laws.proofs.Choices.{by_bool}
 use Rattle.laws.proofs.Tabs.{length_tab, take_tab}
 use Rattle.tables.proofs.Building.{count_at_put_inputs, first_at_put_inputs, high_at_put_inputs, input_at_put_inputs_below, kind_at_put_inputs, length_put_inputs, low_at_put_inputs}
 use Rattle.tables.proofs.Gates.{gate_at_same}
 use Rattle.tables.proofs.Holding.{length_ins_at}
-use Rattle.merge_dependencies.specs.declared.Pushed.TheVariants.{To, Full}
 
 -- ---- words by a list and by a function
 
@@ -74,54 +72,40 @@ module _ (l : List ℕ) (at : ℕ) (ws : List ℕ) where
 -- ---- the answer
 
 module _ (at n : ℕ) where
-  pub behind_fits : at + n ≤ 2048 → behind at n ≡ To (at + n)
+  pub behind_fits : at + n ≤ 2048 → behind at n ≡ Some (at + n)
   unfolding behind
   behind_fits h = rw (le-leb (at + n) 2048 h)
 
-  pub behind_none : 2048 < at + n → behind at n ≡ Full
+  pub behind_none : 2048 < at + n → behind at n ≡ None
   unfolding behind
   behind_none h = rw (lt-leb (at + n) 2048 h)
 
-  module _ (k : ℕ) (e : To k ≡ behind at n) where
+  module _ (k : ℕ) (e : Some k ≡ behind at n) where
     pub behind_le : at + n ≤ 2048
     unfolding behind
     behind_le = by_bool (leb (at + n) 2048)
         (λ t. leb-true (at + n) 2048 t)
-        (λ t. let q : To k ≡ Full = e ∙ rw t in let z : ◌≡◌ {A = ℕ} 0 1 = cc in absurd (omega arith))
+        (λ t. let q : Some k ≡ None = e ∙ rw t in absurd cc)
 
     pub behind_is : k ≡ at + n
-    behind_is = let q : To k ≡ To (at + n) = e ∙ behind_fits behind_le in cc
+    behind_is = let q : Some k ≡ Some (at + n) = e ∙ behind_fits behind_le in cc
 
-  pub behind_over : Full ≡ behind at n → 2048 < at + n
+  pub behind_over : None ≡ behind at n → 2048 < at + n
   unfolding behind
   behind_over e = by_bool (leb (at + n) 2048)
-      (λ t. let q : Full ≡ To (at + n) = e ∙ rw t in let z : ◌≡◌ {A = ℕ} 0 1 = cc in absurd (omega arith))
+      (λ t. let q : None ≡ Some (at + n) = e ∙ rw t in absurd cc)
       (λ t. leb-false (at + n) 2048 t)
 
 -- ---- push
 
-pub push_done : (l m : List ℕ) (at s : ℕ) → at < 2048 → m ≡ put_input l at s → Pushes l m at (s ∷ []) (To (at + 1))
+pub push_done : (l m : List ℕ) (at s : ℕ) → at < 2048 → m ≡ put_input l at s → Pushes l m at (s ∷ []) (Some (at + 1))
 unfolding put_words
 push_done l m at s h e = record { answer = sym (behind_fits at 1 (omega arith)); words = λ q. e }
 
-pub push_full : (l : List ℕ) (at s : ℕ) → 2048 ≤ at → Pushes l l at (s ∷ []) Full
+pub push_full : (l : List ℕ) (at s : ℕ) → 2048 ≤ at → Pushes l l at (s ∷ []) None
 push_full l at s h = record { answer = sym (behind_none at 1 (omega arith)); words = λ q. absurd (omega arith) }
 
 pub ruleset pushes = (push_done, push_full)
-
--- ---- copy_within: the words copied stay what they were
-
-pub within_copies : (l : List ℕ) (f at n : ℕ) → Within l f at n → Copies l l f at n
-within_copies l f at n C = record { source = C.long; long = C.long; ends = omega (arith, C.ends, C.room); room = C.room }
-
-pub within_step : (l₀ l : List ℕ) (f at n j : ℕ) → Copying l₀ l₀ l f at n j → Within l₀ f at n → (s : ℕ) (m : List ℕ) → j < n → s ≡ input_at l (f + j) → m ≡ put_input l (at + j) s → length m ≡ length l
-    → Copying l₀ l₀ m f at n (j + 1)
-within_step l₀ l f at n j inv C s m h es em len =
-    copy_step l₀ l₀ l f at n j inv s m h
-    (es ∙ ap (λ x. input_at x (f + j)) inv.words ∙ input_at_put_inputs_below l₀ at (inputs_from l₀ f) j (f + j) (omega (arith, C.ends)))
-    em len
-
-pub ruleset withins = (copy_start, within_copies, copy_read, copy_read_fits, copy_write, copy_write_fits, copy_long, within_step, copy_end)
 
 -- ---- open_node
 
@@ -132,7 +116,7 @@ ins_at_words l w at = put_inputs_words l at (λ j. input_at l (first_at l w + j)
 
 module _ (l : List ℕ) (v w at : ℕ) (P : Reading l v w at) where
   module _ (n : ℕ) (en : n ≡ count_at l w) where
-    pub open_full : 2048 - at < n → Pushes l l at (ins_at l w) Full
+    pub open_full : 2048 - at < n → Pushes l l at (ins_at l w) None
     open_full h =
         let a = length_ins_at l w in
         let r = P.packed.room in
@@ -140,10 +124,10 @@ module _ (l : List ℕ) (v w at : ℕ) (P : Reading l v w at) where
         record { answer = sym (behind_none at (length (ins_at l w)) q); words = λ p. absurd (omega arith) }
 
     module _ (h : n ≤ 2048 - at) (f : ℕ) (ef : f ≡ first_at l w) where
-      pub open_within : Within l f at n
-      open_within = record { long = P.packed.long; ends = omega (arith, P.packed.ends w P.below); room = let r = P.packed.room in omega arith }
+      pub open_copies : CopiesInputs l l f at n
+      open_copies = record { source = P.packed.long; long = P.packed.long; ends = let r = P.packed.room in omega (arith, P.packed.ends w P.below); room = let r = P.packed.room in omega arith }
 
-      pub open_done : (m : List ℕ) → m ≡ put_inputs l at (inputs_from l f) n → Pushes l m at (ins_at l w) (To (at + n))
+      pub open_done : (m : List ℕ) → m ≡ put_inputs l at (inputs_from l f) n → Pushes l m at (ins_at l w) (Some (at + n))
       open_done m em =
           let a = length_ins_at l w in
           let r = P.packed.room in
@@ -153,4 +137,4 @@ module _ (l : List ℕ) (v w at : ℕ) (P : Reading l v w at) where
             words = λ q. em ∙ rw (en, ef) (ins_at_words l w at);
           }
 
-pub ruleset open_nodes = (open_full, open_within, open_done)
+pub ruleset open_nodes = (open_full, open_copies, open_done)

@@ -1,5 +1,5 @@
--- Words pushed at the end of the input table: what each function asks and leaves. `Pushed` is the enum of src/lib.rt.
-use Rattle.std.specs.Prelude.{suc, ℕ, ◌+◌, ◌-◌, ◌/◌, ◌<◌, ◌≤◌, ◌≡◌, Bool, cond, not, ◌&&◌, List, [], ◌∷◌, length, leb}
+-- Words pushed at the end of the input table: what each function asks and leaves.
+use Rattle.std.specs.Prelude.{suc, ℕ, ◌+◌, ◌-◌, ◌/◌, ◌<◌, ◌≤◌, ◌≡◌, Bool, cond, not, ◌&&◌, Option, Some, None, List, [], ◌∷◌, length, leb}
 use Rattle.model.specs.Gate.{Gate}
 use Rattle.model.specs.Sharing.{inside}
 use Rattle.model.specs.Signal.{is_inverted, is_var}
@@ -8,8 +8,6 @@ use Rattle.shape.specs.Forms.{Below}
 use Rattle.tables.specs.Building.{Packed}
 use Rattle.tables.specs.Layout.{count_at, first_at, ins_at, net_size, put_input}
 use Rattle.kinds.specs.declared.Family.{Family}
-use Rattle.merge_dependencies.specs.declared.Pushed.{Pushed}
-use Rattle.merge_dependencies.specs.declared.Pushed.TheVariants.{To, Full}
 
 -- l with the words ws as its input words from `at` on
 unfoldable pub put_words : List ℕ → ℕ → List ℕ → List ℕ
@@ -17,19 +15,13 @@ put_words l at [] = l
 put_words l at (x ∷ ws) = put_words (put_input l at x) (suc at) ws
 
 -- the place behind n words from `at` on, if they have room
-unfoldable pub behind : ℕ → ℕ → Pushed
-behind at n = cond (leb (at + n) 2048) (To (at + n)) Full
+unfoldable pub behind : ℕ → ℕ → Option ℕ
+behind at n = cond (leb (at + n) 2048) (Some (at + n)) None
 
 -- from l, m has the words ws from `at` on, if they have room
-pub record Pushes (l m : List ℕ) (at : ℕ) (ws : List ℕ) (r : Pushed) : Type 0 where
+pub record Pushes (l m : List ℕ) (at : ℕ) (ws : List ℕ) (r : Option ℕ) : Type 0 where
   pub answer : r ≡ behind at (length ws)
   pub words : at + length ws ≤ 2048 → m ≡ put_words l at ws
-
--- n words from f on, copied behind them
-pub record Within (l : List ℕ) (f at n : ℕ) : Type 0 where
-  pub long : net_size ≤ length l
-  pub ends : f + n ≤ at
-  pub room : at + n ≤ 2048
 
 -- node w of the first v is read, and written behind them
 pub record Reading (l : List ℕ) (v w at : ℕ) : Type 0 where

@@ -1,8 +1,7 @@
 -- What every entry promises (document 01, "Numbers a caller can get"): one outcome, and from it the answer and every lent
 -- word afterwards.
-use Rattle.std.specs.Prelude.{◌≡◌, ℕ, Bool, cond, ◌&&◌, ◌||◌, List, ◌++◌, length, drop, replicate, eqb, leb, ltb}
-use Rattle.answers.specs.declared.Answer.{Answer}
-use Rattle.answers.specs.declared.Answer.TheVariants.{Accepted, Refused}
+use Rattle.std.specs.Prelude.{◌≡◌, ℕ, Result, Bool, cond, ◌&&◌, ◌||◌, List, ◌++◌, length, drop, replicate, eqb, leb, ltb}
+use Rattle.std.specs.Prelude.{Ok, Err}
 
 -- what an entry comes to: refused with a number; an image's bytes written, with a mapping (a word per old node) where there
 -- is one; or a cycle evaluated, with the outputs' bytes and the state's bytes for all nodes
@@ -11,10 +10,14 @@ pub data Outcome : Type 0 where
   written : List ℕ → List ℕ → Outcome
   evaluated : List ℕ → List ℕ → Outcome
 
+-- an answer as document 01 counts it: the length of what was written, or the number of what refuses it
+abbrev pub Answer : Type 0
+Answer = Result ℕ ℕ
+
 abbrev pub answer_of : Outcome → Answer
-answer_of (refused n) = Refused n
-answer_of (written image mapping) = Accepted (length image)
-answer_of (evaluated outputs state) = Accepted 0
+answer_of (refused n) = Err n
+answer_of (written image mapping) = Ok (length image)
+answer_of (evaluated outputs state) = Ok 0
 
 -- a lent buffer with a result at its front, and nothing past it written
 unfoldable pub laid_over : List ℕ → List ℕ → List ℕ

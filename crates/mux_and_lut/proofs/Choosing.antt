@@ -29,9 +29,9 @@ module _ (f t : List ℕ) (first : ℕ) where
 pub weight_inside : (f t : List ℕ) (first count w : ℕ) → count ≤ 6 → w ≡ weight (tab (input_value f t first) count) → w < 64
 weight_inside f t first count w h e = rw e (weight_small 6 (tab (input_value f t first) count) (rw length_tab h))
 
-pub lut_is : (f t : List ℕ) (v first count w lo hi x y : ℕ) → w ≡ weight (tab (input_value f t first) count) → lo ≡ low_at f v → x ≡ lo → hi ≡ high_at f v → y ≡ hi
-    → eqb (bit_and ((x + 4294967296 * y) / 2 ^ w) 1) 1 ≡ lut_value f t v first count
+pub lut_is : (f t : List ℕ) (v first count w lo hi : ℕ) → w ≡ weight (tab (input_value f t first) count) → lo ≡ low_at f v → hi ≡ high_at f v
+    → eqb (bit_and ((lo + 4294967296 * hi) / 2 ^ w) 1) 1 ≡ lut_value f t v first count
 unfolding lut_value
-lut_is f t v first count w lo hi x y e a b c d = mask_odd ((x + 4294967296 * y) / 2 ^ w) ∙ rw (e, b, a, d, c)
+lut_is f t v first count w lo hi e a b = mask_odd ((lo + 4294967296 * hi) / 2 ^ w) ∙ rw (e, a, b)
 
 pub ruleset chooses = (mux_is, weight_inside, lut_is)

@@ -6,7 +6,7 @@ ghost use Rattle.signal_values.specs.Signals.{input_value, Reads};
 ghost use Rattle.mux_and_lut.specs.Tables.{lut_value};
 
 use signal_values::{value, weight};
-use tables::layout::{high_at, input_at, low_at, wide};
+use tables::layout::{high_at, input_at, low_at};
 
 // a if s, else b.
 pub fn mux(from: &[u32], to: &[u32], first: usize) -> bool
@@ -25,6 +25,6 @@ pub fn lut(from: &[u32], to: &[u32], v: usize, first: usize, count: usize) -> bo
     ensures { result ≡ lut_value from.now to.now v first count }
 {
     let w = weight(from, to, first, count);
-    let t = wide(low_at(from, v)) + 4294967296 * wide(high_at(from, v));
+    let t = low_at(from, v) as usize + 4294967296 * (high_at(from, v) as usize);
     (t >> w) & 1 == 1
 }

@@ -1,2 +1,1 @@
-pub mod Muxes
 pub mod Turns

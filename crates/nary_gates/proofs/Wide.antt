@@ -1,12 +1,13 @@
 -- The n-ary gates, return by return.
-use mathlib.Core.Path.{◌≡◌, refl, sym, ap, ap₂, ◌∙◌}
+use mathlib.Core.Path.{◌≡◌, refl, sym, ap, ap₂, ◌∙◌, subst}
 use mathlib.Core.Logic.{◌≢◌}
 use Prim.Native.Nat.{ℕ, zero, suc, ◌≤◌, ◌<◌}
 use native.Mathlib.Omega.{arith}
 use native.Mathlib.Nat.{not-suc-le-zero}
 use mathlib.Core.Bool.{Bool, true, false, not, beq}
-use mathlib.Core.List.{List, [], ◌∷◌, map}
-use lib.ListN.{length, take, get_or}
+use mathlib.Core.List.{List, [], ◌∷◌, ◌++◌, map}
+use lib.ListN.{length, take, get_or, length-append}
+use lib.Seq.{take-append-le}
 use borrow.Author.Tests.{eq-eqb, ne_eqb}
 use Rattle.kinds.specs.declared.Kind.TheVariants.{AndN, XorN}
 use Rattle.signal.specs.declared.Signal.{Signal}
@@ -80,19 +81,41 @@ module _ (l : List ℕ) (n : ℕ) (z : Bool) where
 
 pub ruleset wides = (wide_none, wide_zero, wide_one, wide_two, wide_three, wide_more)
 
-module _ (l a b c : List ℕ) (k m : ℕ) (z : Bool) (f : Front (without 1 l) a k) (g : take k b ≡ sorted (take k a)) (h : Front (uniq (take k b)) c m) where
-  front_and : take m c ≡ uniq (sorted (without 1 l))
-  front_and = h.front ∙ ap uniq (g ∙ ap sorted f.front)
+-- what stands at the front of a part, stands at the front of the whole
+pub front_whole : (q c r : List ℕ) (m : ℕ) → Front q c m → take m (c ++ r) ≡ q
+front_whole q c r m h = take-append-le m c r h.count ∙ h.front
 
-  pub andn_none : (t : Bool) (s : Signal) (e : List ℕ) → t ≡ opposed (take m c) → t ≡ true → s.a ≡ from_bool z → normal_of (Copy s) e ≡ make_and_n l z
+-- passes at the front: what retain left, in order, and then with fewer neighbours
+pub front_pass : (F : List ℕ → List ℕ) (q a b c r : List ℕ) (k m : ℕ) → Front q a k → b ≡ sorted (take k a) → Front (F b) c m → Front (F (sorted q)) (c ++ r) m
+front_pass F q a b c r k m f g h = record {
+  front = front_whole (F b) c r m h ∙ ap F (g ∙ ap sorted f.front);
+  count = simp length-append (omega (arith, h.count));
+}
+
+pub front_ands : (l a b c r : List ℕ) (k m : ℕ) → Front (without 1 l) a k → b ≡ sorted (take k a) → Front (uniq b) c m
+    → Front (uniq (sorted (without 1 l))) (c ++ r) m
+front_ands l a b c r k m f g h = front_pass uniq (without 1 l) a b c r k m f g h
+
+pub front_xors : (l s a b c r : List ℕ) (k m : ℕ) → s ≡ map without_inversion l → Front (without 0 s) a k → b ≡ sorted (take k a) → Front (cancel b) c m
+    → Front (cancel (sorted (without 0 (map without_inversion l)))) (c ++ r) m
+front_xors l s a b c r k m e f g h = front_pass cancel (without 0 (map without_inversion l)) a b c r k m (subst (λ (v : List ℕ). Front (without 0 v) a k) e f) g h
+
+pub ruleset fronts = (front_ands, front_xors)
+
+module _ (l c r : List ℕ) (m n : ℕ) (z : Bool) (h : Front (uniq (sorted (without 1 l))) c m) where
+  pub andn_none : (t : Bool) (s : Signal) (e : List ℕ) → t ≡ opposed (take m (c ++ r)) → t ≡ true → s.a ≡ from_bool z → normal_of (Copy s) e ≡ make_and_n l z
   unfolding make_and_n and_tidy normal_of
-  andn_none t s e q v w = rw (← front_and, ← q, v) (ap copied w)
+  andn_none t s e q v w = rw (← front_whole _ c r m h, ← q, v) (ap copied w)
 
-  pub andn_some : (t : Bool) (r : Norm) → t ≡ opposed (take m c) → t ≡ false → r ≡ and_wide (take m c) z → r ≡ make_and_n l z
+  pub andn_some : (t : Bool) (x : Norm) → t ≡ opposed (take m (c ++ r)) → t ≡ false → x ≡ and_wide (take m (c ++ r)) z → x ≡ make_and_n l z
   unfolding make_and_n and_tidy
-  andn_some t r q v w = rw (← front_and, ← q, v) w
+  andn_some t x q v w = rw (← front_whole _ c r m h, ← q, v) w
 
-pub ruleset andns = (andn_none, andn_some)
+  -- and there is room for three, as there was
+  pub andn_listed : length (c ++ r) ≡ n → 3 ≤ n → Listed (c ++ r) m
+  andn_listed e k = record { count = simp length-append (omega (arith, h.count)); room = omega arith }
+
+pub ruleset andns = (andn_none, andn_some, andn_listed)
 
 -- ---- Xor
 
@@ -120,9 +143,12 @@ module _ (l : List ℕ) (n : ℕ) (z : Bool) where
 
 pub ruleset odds = (odd_none, odd_one, odd_two, odd_three, odd_more)
 
-pub xorn_all : (l s a b c : List ℕ) (n k m : ℕ) (p z : Bool) (r : Norm) → p ≡ parity (take n l) → take n s ≡ map without_inversion (take n l)
-    → Front (without 0 (take n s)) a k → take k b ≡ sorted (take k a) → Front (cancel (take k b)) c m
-    → r ≡ xor_some (take m c) (not (beq p z)) → r ≡ make_xor_n (take n l) z
-unfolding make_xor_n
-xorn_all l s a b c n k m p z r e f g h i j =
-    j ∙ ap₂ xor_some (i.front ∙ ap cancel (h ∙ ap sorted (g.front ∙ ap (without 0) f))) (xor_is p z ∙ ap (λ t. xor t z) e)
+module _ (l c r : List ℕ) (m n : ℕ) (p z : Bool) (h : Front (cancel (sorted (without 0 (map without_inversion l)))) c m) where
+  pub xorn_all : (x : Norm) → p ≡ parity l → x ≡ xor_some (take m (c ++ r)) (not (beq p z)) → x ≡ make_xor_n l z
+  unfolding make_xor_n
+  xorn_all x e j = j ∙ ap₂ xor_some (front_whole _ c r m h) (xor_is p z ∙ ap (λ t. xor t z) e)
+
+  pub xorn_listed : length (c ++ r) ≡ n → 3 ≤ n → Listed (c ++ r) m
+  xorn_listed e k = record { count = simp length-append (omega (arith, h.count)); room = omega arith }
+
+pub ruleset xorns = (xorn_all, xorn_listed)

@@ -2,7 +2,7 @@
 use mathlib.Core.Path.{◌≡◌}
 use mathlib.Core.List.{List}
 use Prim.Native.Nat.{ℕ}
-use Rattle.answers.specs.declared.Answer.{Answer}
+use Rattle.model.specs.Answers.{Answer}
 use Rattle.model.specs.Answers.{Outcome, Kept2}
 use Rattle.model.specs.Entries.{canonical_outcome, dedup_outcome, cleanup_outcome, sort_outcome}
 use Rattle.tables.proofs.Unique.{Same, unique2}

@@ -1,10 +1,11 @@
 // Equal gates merged, each normalized first: 1; 2 to 7; 13; or the image of what is left, and the mapping, a word per old node.
 ghost use Rattle.model.specs.Answers.{Kept2};
 ghost use Rattle.model.specs.Entries.{canonical_outcome};
+ghost use Rattle.refusals.specs.Numbers.{numbered};
 
-use crate::shell::enter;
 use answers::Answer;
-use network_work::Task;
+use lending::lend;
+use network_work::duplicates::merge;
 
 pub fn canonical(
     image: &[u8],
@@ -13,7 +14,13 @@ pub fn canonical(
     a: &mut [u32],
     b: &mut [u32],
 ) -> Answer
-    ensures { Kept2 (canonical_outcome image.now out.old map.old a.old b.old) out.old map.old a.old b.old result out.new map.new a.new b.new }
+    ensures { Kept2 (canonical_outcome image.now out.old map.old a.old b.old) out.old map.old a.old b.old (numbered result) out.new map.new a.new b.new }
 {
-    enter(Task::Merge(true), image, out, map, a, b)
+    lend(
+        out,
+        map,
+        a,
+        b,
+        |out, map, a, b| merge(true, image, out, map, a, b),
+    )
 }

@@ -4,5 +4,4 @@
 pub mod canonical;
 pub mod cleaning;
 pub mod deduplicate;
-mod shell;
 pub mod sort;

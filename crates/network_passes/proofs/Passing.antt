@@ -5,8 +5,8 @@ use mathlib.Core.List.{List}
 use Prim.Native.Nat.{ℕ, ◌+◌, ◌≤◌, ◌<◌}
 use native.Mathlib.Omega.{arith}
 use lib.ListN.{length}
-use Rattle.answers.specs.declared.Answer.{Answer}
-use Rattle.answers.specs.declared.Answer.TheVariants as answers
+use Rattle.model.specs.Answers.{Answer}
+use Rattle.std.specs.Prelude.{Result, Ok, Err}
 use Rattle.laws.specs.Lists.{tab}
 use Rattle.laws.proofs.Tabs.{tab_ext}
 use Rattle.model.specs.Gate.{size}
@@ -21,8 +21,9 @@ use Rattle.tables.proofs.Holding.{size_network, nodes_few}
 use Rattle.write_image.specs.Writing.{mapping_in}
 use Rattle.write.specs.Mapping.{HeldMapped}
 use Rattle.topo_sort.specs.Sorts.{Sortable, sorting_of, Sorted}
-use Rattle.topo_sort.specs.declared.Sorting.{Sorting}
-use Rattle.topo_sort.specs.declared.Sorting.TheVariants.{Ordered, Looped}
+use Rattle.refusals.specs.Numbers.{numbered}
+use Rattle.refusals.specs.declared.Refusal.{Refusal}
+use Rattle.refusals.specs.declared.Refusal.TheVariants.{Looped}
 use Rattle.cleanup.specs.Marking.{Cleanable, Cleaned}
 use Rattle.network_passes.specs.Passes.{Passable, passed, cleanup_pass, sort_pass}
 
@@ -41,32 +42,34 @@ module _ (from to : List ℕ) (c : Counts) (P : Passable from to c) where
   pub sort_asks : Sortable from to c
   sort_asks = record { held = P.held; room = P.room }
 
-  module _ (l : List ℕ) (s : Sorting) (S : Sorted from l c s) where
-    pub sort_held : (n : ℕ) → s ≡ Ordered → n ≡ c.nodes → HeldMapped l c n
-    sort_held n q e = record { held = (S.holds q).held; inside = rw e (behind l S.room) }
+  -- the answer tells whether there is an order
+  full : (b : Bool) → Ok tt ≡ sorting_of b → b ≡ true
+  full true e = refl
+  full false e = absurd cc
 
-    full : (b : Bool) → Ordered ≡ sorting_of b → b ≡ true
-    full true e = refl
-    full false e = let z : ◌≡◌ {A = ℕ} 0 1 = cc in absurd (omega arith)
+  none : (e : Refusal) (b : Bool) → Err e ≡ sorting_of b → (b ≡ false) × (e ≡ Looped)
+  none e true q = absurd cc
+  none e false q = (refl, cc)
 
-    none : (b : Bool) → Looped ≡ sorting_of b → b ≡ false
-    none true e = let z : ◌≡◌ {A = ℕ} 0 1 = cc in absurd (omega arith)
-    none false e = refl
+  pub sort_looped : (l : List ℕ) (e : Refusal) → Sorted from l c (Err e) → (r : Result ℕ Refusal) (x : Refusal) → r ≡ Err x → x ≡ e → (out second : List ℕ)
+      → Answered2 (passed sort_pass (network_of from c) (length out) (length second)) out second (numbered r) out second
+  unfolding sort_pass
+  sort_looped l e S r x p q out second =
+      let z = none e (sorts (network_of from c)) S.answer in
+      rw (p, q, z.1) (record { first = record { answer = rw z.0; result = rw z.0 }; second_is = rw z.0 })
 
-    pub sort_looped : s ≡ Looped → (out second : List ℕ) → Answered2 (passed sort_pass (network_of from c) (length out) (length second)) out second (answers.Refused 8) out second
-    unfolding sort_pass
-    sort_looped q out second =
-        let z : sorts (network_of from c) ≡ false = none (sorts (network_of from c)) (sym q ∙ S.answer) in
-        record { first = record { answer = rw z; result = rw z }; second_is = rw z }
+  module _ (l : List ℕ) (S : Sorted from l c (Ok tt)) where
+    pub sort_held : HeldMapped l c c.nodes
+    sort_held = record { held = (S.holds refl).held; inside = behind l S.room }
 
-    pub sort_written : s ≡ Ordered → (out second : List ℕ) (r : Answer) (out' second' : List ℕ)
+    pub sort_written : (out second : List ℕ) (r : Answer) (out' second' : List ℕ)
         → Answered2 (in_room (length out) (length second) (written (image_of (network_of l c)) (mapping_in l c.nodes))) out second r out' second'
         → Answered2 (passed sort_pass (network_of from c) (length out) (length second)) out second r out' second'
     unfolding sort_pass
-    sort_written q out second r out' second' D =
-        let z : sorts (network_of from c) ≡ true = full (sorts (network_of from c)) (sym q ∙ S.answer) in
-        let n : network_of l c ≡ topo_sort (network_of from c) = (S.holds q).net in
-        let m = mapping_is from l c (translation (size (network_of from c)) (topo_order (network_of from c))) (S.map q) in
+    sort_written out second r out' second' D =
+        let z : sorts (network_of from c) ≡ true = full (sorts (network_of from c)) S.answer in
+        let n : network_of l c ≡ topo_sort (network_of from c) = (S.holds refl).net in
+        let m = mapping_is from l c (translation (size (network_of from c)) (topo_order (network_of from c))) (S.map refl) in
         rw (z, ← n, ← m) D
 
   -- ---- cleanup
@@ -94,4 +97,4 @@ module _ (from to : List ℕ) (c : Counts) (P : Passable from to c) where
         let m = mapping_is from l c (translation (size (network_of from c)) (cleanup_order (network_of from c))) S.map in
         rw (← n, ← m) D
 
-pub ruleset passes = (sort_asks, sort_held, sort_looped, sort_written, cleanup_asks, cleanup_held, old_few, new_few, cleanup_written)
+pub ruleset passes = (sort_asks, cleanup_asks, cleanup_held, old_few, new_few, cleanup_written)

@@ -1,19 +1,17 @@
 -- The work of dedup and canonical: what was loaded is merged into the other area and written with its mapping.
-use mathlib.Core.Path.{◌≡◌}
+use mathlib.Core.Path.{◌≡◌, refl}
 use mathlib.Core.Bool.{Bool}
 use mathlib.Core.List.{List}
 use Prim.Native.Nat.{ℕ, ◌≤◌}
 use native.Mathlib.Omega.{arith}
 use lib.ListN.{length}
-use Rattle.answers.specs.declared.Answer.{Answer}
-use Rattle.answers.specs.declared.Answer.TheVariants as answers
-use Rattle.model.specs.Image.{sorted_refusal_of, net_of, image_of}
+use Rattle.model.specs.Answers.{Answer}
+use Rattle.std.specs.Prelude.{Ok}
+use Rattle.model.specs.Image.{sorted_refusal_of, image_of}
 use Rattle.model.specs.Answers.{written, in_room}
 use Rattle.model.specs.Network.{dedup_with, dedup_map}
 use Rattle.shape.proofs.Accepted.{accepted_sorted}
 use Rattle.load.specs.Images.{Read}
-use Rattle.load.specs.declared.Loaded.{Loaded}
-use Rattle.load.specs.declared.Loaded.TheVariants.{Refused, Network}
 use Rattle.tables.specs.Holding.{network_of}
 use Rattle.tables.specs.Working.{Answered2}
 use Rattle.tables.specs.declared.counts.Counts.{Counts}
@@ -24,9 +22,8 @@ use Rattle.placing.specs.Lists.{norm_of}
 use Rattle.dedup.specs.States.{Dedupable, Deduped}
 use Rattle.network_passes.specs.Passes.{passed}
 use Rattle.network_passes.proofs.Passing.{mapping_is}
-use Rattle.network_work.specs.Works.{dedup_pass, dedup_work}
+use Rattle.network_work.specs.Works.{dedup_pass}
 use Rattle.load.proofs.Loading.{network_passes, network_holds}
-use Rattle.network_work.proofs.Mappings.{load_refused, load_passed}
 
 -- ---- the pass
 
@@ -50,21 +47,7 @@ pub ruleset merges = (dedup_held, dedup_written)
 
 -- ---- behind the loading of the image
 
-module _ (img l : List ℕ) (x : Loaded) (R : Read (sorted_refusal_of img) img l x) where
-  pub dedup_refused : (can : Bool) (n : ℕ) → x ≡ Refused n → (out second : List ℕ) → Answered2 (dedup_work can img (length out) (length second)) out second (answers.Refused n) out second
-  unfolding dedup_work dedup_pass
-  dedup_refused can n q out second = load_refused (sorted_refusal_of img) img l x R n q (dedup_pass can (net_of img)) out second
-
-  module _ (c : Counts) (q : x ≡ Network c) where
-    pub dedup_asks : (b : List ℕ) → 16384 ≤ length b → Dedupable l b c
-    dedup_asks b h =
-        let H = network_holds (sorted_refusal_of img) img l x R c q in
-        record { held = H.held; sorted = rw H.net (accepted_sorted img (network_passes (sorted_refusal_of img) img l x R c q)); long = h }
-
-    pub dedup_passed : (can : Bool) (out second : List ℕ) (r : Answer) (out' second' : List ℕ)
-        → Answered2 (passed (dedup_pass can) (network_of l c) (length out) (length second)) out second r out' second'
-        → Answered2 (dedup_work can img (length out) (length second)) out second r out' second'
-    unfolding dedup_work dedup_pass
-    dedup_passed can out second r out' second' = load_passed (sorted_refusal_of img) img l x R c q (dedup_pass can) out second r out' second'
-
-pub ruleset merged = (dedup_refused, dedup_asks, dedup_passed)
+pub dedup_asks : (img l : List ℕ) (c : Counts) → Read (sorted_refusal_of img) img l (Ok c) → (b : List ℕ) → 16384 ≤ length b → Dedupable l b c
+dedup_asks img l c R b h =
+    let H = network_holds (sorted_refusal_of img) img l (Ok c) R c refl in
+    record { held = H.held; sorted = rw H.net (accepted_sorted img (network_passes (sorted_refusal_of img) img l (Ok c) R c refl)); long = h }

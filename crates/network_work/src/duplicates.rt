@@ -5,9 +5,10 @@ ghost use Rattle.tables.specs.Working.{Areas, Answered2};
 ghost use Rattle.dedup.specs.States.{Dedupable};
 ghost use Rattle.network_passes.specs.Passes.{passed};
 ghost use Rattle.network_work.specs.Works.{dedup_pass, dedup_work};
+ghost use Rattle.refusals.specs.Numbers.{numbered};
 
 use answers::Answer;
-use load::{Loaded, load_sorted};
+use load::load;
 use tables::counts::Counts;
 use write::write_mapped;
 
@@ -21,7 +22,7 @@ fn pass(
     map: &mut [u32],
 ) -> Answer
     requires { Dedupable from.now to.old c }
-    ensures { Answered2 (passed (dedup_pass canonical) (network_of from.now c) (length out.old) (length map.old)) out.old map.old result out.new map.new }
+    ensures { Answered2 (passed (dedup_pass canonical) (network_of from.now c) (length out.old) (length map.old)) out.old map.old (numbered result) out.new map.new }
 {
     let d = dedup::dedup(from, to, c, canonical);
     write_mapped(to, d, c.nodes, out, map)
@@ -36,11 +37,8 @@ pub fn merge(
     b: &mut [u32],
 ) -> Answer
     requires { Areas a.old b.old }
-    ensures { Answered2 (dedup_work canonical image.now (length out.old) (length map.old)) out.old map.old result out.new map.new }
+    ensures { Answered2 (dedup_work canonical image.now (length out.old) (length map.old)) out.old map.old (numbered result) out.new map.new }
 {
-    let l = load_sorted(image, a);
-    match l {
-        Loaded::Refused(n) => Answer::Refused(n),
-        Loaded::Network(c) => pass(a, b, c, canonical, out, map),
-    }
+    let c = load::<true>(image, a)?;
+    pass(a, b, c, canonical, out, map)
 }

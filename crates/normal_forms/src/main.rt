@@ -2,7 +2,7 @@
 // records of an image one after another, at most 16,384 bytes; the program ends at the first that is none.
 #![tactic(auto)]
 
-ghost use Rattle.std.specs.Prelude.{◌≤◌, length, IfOk};
+ghost use Rattle.std.specs.Prelude.{◌≤◌, ◌<◌, length, IfOk, IfSome};
 
 use canonical_gates::make_canonical;
 use gates::Normalization;
@@ -13,7 +13,7 @@ use std::io;
 use std::io::Write;
 use text_parts::{put, put_mark};
 
-mod records;
+mod record;
 mod text;
 
 // A line's left side, into out: the gate as it was read.
@@ -21,11 +21,10 @@ fn print_gate<W: Write>(
     to: &mut W,
     out: &mut [u8],
     kind: Kind,
-    list: &[u32],
-    n: usize,
+    ins: &[u32],
     table: u64,
 ) -> io::Result<()> {
-    let end = text::put_gate(out, 0, kind, list, n, table);
+    let end = text::put_gate(out, 0, kind, ins, table);
     let next = put_all(out, end, b" -> ");
     flush(to, out, next)
 }
@@ -45,7 +44,8 @@ fn print_normal<W: Write>(
         }
         Normalization::Node { kind, count, inv } => {
             let at = put_mark(out, 0, inv);
-            let end = text::put_gate(out, at, kind, list, count, table);
+            let ins = &list[..count.min(list.len())];
+            let end = text::put_gate(out, at, kind, ins, table);
             end_line(to, out, end)
         }
     }
@@ -63,46 +63,28 @@ fn flush<W: Write>(to: &mut W, out: &[u8], n: usize) -> io::Result<()> {
     Ok(())
 }
 
-// The line of the record at the start of img; answers how many bytes it has, 0 where no record starts there.
+// The line of the record at the start of img; answers how many bytes it has, None where no record starts there.
 fn print_record<W: Write>(
     to: &mut W,
     img: &[u8],
     list: &mut [u32],
     out: &mut [u8],
-) -> io::Result<usize>
-    ensures { IfOk result (λ n. n ≤ length img.now) }
+) -> io::Result<Option<usize>>
+    ensures { IfOk result (λ o. IfSome o (λ n. (0 < n) × (n ≤ length img.now))) }
 {
-    let n = records::count(img);
-    let size = records::size(img, n);
-    if size == 0 {
-        return Ok(0);
-    }
-    if list.len() < 3 {
-        return Ok(0);
-    }
-    if list.len() < n {
-        return Ok(0);
-    }
-    let kind = records::kind(img);
-    if !records::fits(kind, n) {
-        return Ok(0);
-    }
-    records::copy_inputs(img, list, n);
-    let table = records::table(img, n);
-    print_gate(to, out, kind, list, n, table)?;
-    let r = make_canonical(kind, list, n);
-    print_normal(to, out, r, list, table)?;
-    Ok(size)
+    let Some(r) = record::read(img, list) else {
+        return Ok(None);
+    };
+    print_gate(to, out, r.kind, &list[..r.count], r.table)?;
+    let normal = make_canonical(r.kind, list, r.count);
+    print_normal(to, out, normal, list, r.table)?;
+    Ok(Some(r.size))
 }
 
 fn print_all<W: Write>(to: &mut W, img: &[u8], list: &mut [u32], out: &mut [u8]) -> io::Result<()> {
-    let mut at: usize = 0;
-    while at < img.len() {
-        let size = print_record(to, &img[at..], list, out)?;
-        if size == 0 {
-            break;
-        }
-        at += size;
+    let mut rest = img;
+    while let Some(size) = print_record(to, rest, list, out)? {
+        rest = &rest[size..];
     }
     Ok(())
 }

@@ -1,15 +1,19 @@
 -- What a store does to each reading. With specs/Lists.antt the only file that knows the places of the words.
 use Prim.Native.Nat.{suc, zero, ℕ, ◌+◌, ◌<◌, ◌≤◌}
-use mathlib.Core.Path.{ap, refl, ◌∙◌, ◌≡◌}
+use mathlib.Core.Path.{ap, refl, sym, ◌∙◌, ◌≡◌}
 use mathlib.Core.Logic.{◌≢◌}
 use mathlib.Core.List.{List, [], ◌++◌, ◌∷◌}
 use native.Mathlib.Omega.{arith}
 use native.Mathlib.Nat.{add-zero}
-use lib.ListN.{get_or, length}
+use native.Mathlib.Numerals.{add-one}
+use lib.ListN.{drop, get_or, length, replicate, take}
 use lib.Seq.{set_comm}
-use Rattle.pairs.specs.Lists.{area_size, left_at, left_base, put_left, put_list, put_pair, put_sig, put_start, put_used, sig_at, sig_base, start_at, start_base, use_base, used_at}
+use Rattle.std.proofs.lemmas.List.{length-take-le, replicate-append-replicate}
+use Rattle.laws.specs.Lists.{tab}
+use Rattle.pairs.specs.Lists.{area_size, left_at, left_base, put_left, put_list, put_pair, put_sig, put_start, put_used, sig_at, sig_base, start_at, start_base, use_base, used_at, zeroed}
 use Rattle.tables.specs.Building.{put_node}
 use Rattle.tables.specs.Layout.{store}
+use Rattle.laws.proofs.Tabs.{fill_put}
 use Rattle.tables.proofs.Building.{cell_put_node}
 use Rattle.tables.proofs.Places.{cell_store, cell_store_other, length_store}
 
@@ -129,6 +133,25 @@ module _ (l : List ℕ) (u x : ℕ) where
   pub used_at_put_used_other : (w : ℕ) → w ≢ u → used_at (put_used l u x) w ≡ used_at l w
   unfolding used_at put_used
   used_at_put_used_other w n = cell_store_other l use_base u x use_base w (omega arith)
+
+-- ---- the table of uses, a part of the area filled with zeros
+
+zeroed_tab : (l : List ℕ) (n : ℕ) → n ≤ length l → zeroed l n ≡ tab (λ _. 0) n ++ drop n l
+unfolding zeroed put_used store tab
+zeroed_tab l zero h = refl
+zeroed_tab l (suc n) h =
+    let e = zeroed_tab l n (omega arith) in
+    let z : use_base + n ≡ n = omega arith in
+    let f = rw add-one at (fill_put (λ _. 0) l n h) in
+    rw (e, z) f
+
+zeros : (n : ℕ) → tab {A = ℕ} (λ _. 0) n ≡ replicate n 0
+unfolding tab
+zeros zero = refl
+zeros (suc n) = rw (zeros n) (replicate-append-replicate n 1 0 ∙ ap (λ k. replicate k 0) (add-one n))
+
+pub used_cleared : (l m : List ℕ) (n k : ℕ) → (n ≤ 4096) × (area_size ≤ length l) → k ≡ n → m ≡ replicate (length (take k l)) 0 → m ++ drop k l ≡ zeroed l n
+used_cleared l m n k (h, z) ek e = rw (e, ek, length-take-le n l (omega arith), ← zeros n) (sym (zeroed_tab l n (omega arith)))
 
 -- ---- a gate put into the network in front
 

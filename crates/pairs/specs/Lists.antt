@@ -1,6 +1,6 @@
 -- Where the words of a factoring pass stand in an area, and the lists and pairs that the words hold.
 -- Only this file, proofs/Places.antt and src/lists.rt know the places.
-use Rattle.std.specs.Prelude.{suc, ℕ, ◌+◌, ◌<◌, ◌≤◌, List, [], ◌∷◌, length}
+use Rattle.std.specs.Prelude.{suc, zero, ℕ, ◌+◌, ◌<◌, ◌≤◌, List, [], ◌∷◌, length}
 use Rattle.laws.specs.Lists.{tab}
 use Rattle.model.specs.Sharing.{Pair}
 use Rattle.tables.specs.Layout.{cell, store}
@@ -47,6 +47,11 @@ put_left l i n = store l left_base i n
 
 unfoldable pub put_used : List ℕ → ℕ → ℕ → List ℕ
 put_used l u x = store l use_base u x
+
+-- l with the first n words of the table zero
+unfoldable pub zeroed : List ℕ → ℕ → List ℕ
+zeroed l zero = l
+zeroed l (suc n) = put_used (zeroed l n) n 0
 
 -- a new node's pair stands in the words that a gate has for its list
 unfoldable pub pair_at : List ℕ → ℕ → Pair

@@ -1,7 +1,7 @@
 // Where a factoring pass keeps its words: the only functions that know the places.
 ghost use Rattle.std.specs.Prelude.{◌≡◌, ◌<◌, ◌≤◌, length};
 ghost use Rattle.model.specs.Signal.{from_var};
-ghost use Rattle.pairs.specs.Lists.{area_size, sig_at, start_at, left_at, used_at, put_sig, put_start, put_left, put_used, pair_at, put_pair};
+ghost use Rattle.pairs.specs.Lists.{area_size, sig_at, start_at, left_at, used_at, put_sig, put_start, put_left, put_used, zeroed, pair_at, put_pair};
 
 use signal::Signal;
 use tables::scratch::{number, put_word, word};
@@ -17,6 +17,7 @@ const START: usize = 14336;
 
 const LEFT: usize = 14848;
 
+// stays: each accessor is the one call of the generic `word`, `number` or `put_word` with its place; a const parameter would only move the place to the callers.
 pub fn sig_at(area: &[u32], k: usize) -> u32
     requires { (k < 2048) × (area_size ≤ length area.now) }
     ensures { result ≡ sig_at area.now k }
@@ -71,6 +72,14 @@ pub fn put_used(area: &mut [u32], u: usize, x: u32)
     ensures { area.new ≡ put_used area.old u x }
 {
     put_word(area, USED, u, x);
+}
+
+// The first n words of the table of uses zero.
+pub fn clear_used(area: &mut [u32], n: usize)
+    requires { (n ≤ 4096) × (area_size ≤ length area.old) }
+    ensures { area.new ≡ zeroed area.old n }
+{
+    area[USED..USED + n].fill(0);
 }
 
 // The pair of new node v.

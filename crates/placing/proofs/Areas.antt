@@ -1,66 +1,19 @@
--- The translation and the list in an area: what each store does to them.
+-- The list in an area: what gathering puts there.
 use Prim.Native.Nat.{ℕ, suc, ◌+◌, ◌≤◌, ◌<◌}
-use mathlib.Core.Path.{◌≡◌, sym, ap, ◌∙◌, fun_ext}
+use mathlib.Core.Path.{◌≡◌, sym, ap, ◌∙◌}
 use mathlib.Core.Bool.{Bool}
 use mathlib.Core.List.{List, map}
 use native.Mathlib.Omega.{arith}
-use native.Mathlib.Decide.{ℕ_discrete, dec_lt}
-use lib.ListN.{length, get_or, take, drop, length-drop, get_or-eq_default}
+use lib.ListN.{length, get_or, take, drop, length-drop}
 use lib.Seq.{get_or-take, get_or-drop, length-take-le, ext_get_or}
-use borrow.Author.Tests.{eq-eqb, ne_eqb}
 use Rattle.laws.specs.Lists.{tab}
 use Rattle.laws.proofs.Tabs.{tab_ext, length_tab, get_or_tab, map_tab}
-use Rattle.model.specs.Network.{upd}
 use Rattle.tables.specs.Layout.{tr_base, first_at, count_at, input_at, ins_at, cell, store}
-use Rattle.tables.proofs.Places.{length_store, cell_store, cell_store_other}
-use Rattle.tables.specs.Building.{put_node, put_outputs}
-use Rattle.tables.proofs.Building.{length_put_node, cell_put_node, length_put_outputs, cell_put_outputs}
 use Rattle.same_gate.specs.Listed.{list_base}
-use Rattle.placing.specs.Lists.{tr_of, looked_up, gathered}
+use Rattle.translation.specs.Tables.{tr_of}
+use Rattle.translation.proofs.Translated.{tr_of_same}
+use Rattle.placing.specs.Lists.{looked_up, gathered}
 use Rattle.lookup.proofs.Filled.{length_filled, filled_next, cell_filled, cell_filled_other}
-
--- ---- the translation, word by word
-
-module _ (l : List ℕ) (z : 16384 ≤ length l) where
-  pub tr_of_cell : (v : ℕ) → v < 512 → tr_of l v ≡ cell l tr_base v
-  unfolding tr_of cell
-  tr_of_cell v h = get_or-take 512 (drop tr_base l) v 0 h ∙ get_or-drop tr_base l v 0
-
-  tr_of_past : (v : ℕ) → 512 ≤ v → tr_of l v ≡ 0
-  unfolding tr_of
-  tr_of_past v h =
-      let e : length (take 512 (drop tr_base l)) ≡ 512 = length-take-le 512 (drop tr_base l) (rw length-drop (omega arith)) in
-      get_or-eq_default (take 512 (drop tr_base l)) 0 (omega arith)
-
--- areas with the same words in the table hold the same translation
-pub tr_of_same : (l m : List ℕ) → 16384 ≤ length l → 16384 ≤ length m → ((v : ℕ) → v < 512 → cell l tr_base v ≡ cell m tr_base v) → tr_of l ≡ tr_of m
-tr_of_same l m y z h = fun_ext (λ v. elim (dec_lt v 512) [
-  | yes q ↦ tr_of_cell l y v q ∙ h v q ∙ sym (tr_of_cell m z v q)
-  | no q ↦ tr_of_past l y v (omega arith) ∙ sym (tr_of_past m z v (omega arith))
-])
-
-pub tr_of_store : (l : List ℕ) (k x : ℕ) → 16384 ≤ length l → k < 512 → tr_of (store l tr_base k x) ≡ upd (tr_of l) k x
-tr_of_store l k x z h = fun_ext go
-  where
-    z' : 16384 ≤ length (store l tr_base k x)
-    z' = rw length_store z
-
-    go : (v : ℕ) → tr_of (store l tr_base k x) v ≡ upd (tr_of l) k x v
-    go v = elim (ℕ_discrete v k) [
-      | yes e ↦ rw (eq-eqb v k e) (ap (tr_of (store l tr_base k x)) e ∙ tr_of_cell (store l tr_base k x) z' k h ∙ cell_store l tr_base k x (omega arith))
-      | no e ↦ rw (ne_eqb v k e) (elim (dec_lt v 512) [
-        | yes q ↦ tr_of_cell (store l tr_base k x) z' v q ∙ cell_store_other l tr_base k x tr_base v (omega arith) ∙ sym (tr_of_cell l z v q)
-        | no q ↦ tr_of_past (store l tr_base k x) z' v (omega arith) ∙ sym (tr_of_past l z v (omega arith))
-      ])
-    ]
-
--- words of the network are none of the table's
-pub tr_of_outputs : (l : List ℕ) → 16384 ≤ length l → (f : ℕ → ℕ) (m : ℕ) → m ≤ 64 → tr_of (put_outputs l f m) ≡ tr_of l
-tr_of_outputs l z f m h = tr_of_same (put_outputs l f m) l (rw length_put_outputs z) z (λ v q. cell_put_outputs l f m tr_base v h (omega arith))
-
-pub tr_of_put_node : (l : List ℕ) → 16384 ≤ length l → (v k at : ℕ) (f : ℕ → ℕ) (n lo hi : ℕ) → v < 512 → at + n ≤ 2048 → tr_of (put_node l v k at f n lo hi) ≡ tr_of l
-tr_of_put_node l z v k at f n lo hi h r =
-    tr_of_same (put_node l v k at f n lo hi) l (rw length_put_node z) z (λ w q. cell_put_node l v k at f n lo hi h r tr_base w (omega arith))
 
 -- ---- the list
 
@@ -75,7 +28,7 @@ module _ (src l : List ℕ) (c : Bool) (f : ℕ) (z : 16384 ≤ length l) where
   cell_gathered n b j h = cell_filled_other l list_base _ n b j (λ i q. omega arith)
 
   pub tr_of_gathered : (n : ℕ) → tr_of (gathered src l c f n) ≡ tr_of l
-  tr_of_gathered n = tr_of_same (gathered src l c f n) l (rw length_gathered z) z (λ v h. cell_gathered n tr_base v (omega arith))
+  tr_of_gathered n = tr_of_same (gathered src l c f n) l (rw length_gathered (omega arith)) (omega arith) (λ v h. cell_gathered n tr_base v (omega arith))
 
   -- one more
   pub gathered_next : (n s : ℕ) → s ≡ looked_up c (tr_of (gathered src l c f n)) (input_at src (f + n)) → store (gathered src l c f n) list_base n s ≡ gathered src l c f (suc n)

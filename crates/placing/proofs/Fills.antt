@@ -9,12 +9,13 @@ use native.Mathlib.Numerals.{add-one}
 use lib.ListN.{length}
 use mir.Val.{Fits}
 use mir.Syntax.{w64}
-use Rattle.tables.specs.Layout.{net_size, input_at, put_input, cell, store}
+use Rattle.tables.specs.Layout.{net_size, span, input_at, put_input, cell, store}
 use Rattle.tables.specs.Building.{put_inputs}
 use Rattle.tables.proofs.Building.{put_inputs_next, cell_put_inputs}
 use Rattle.same_gate.specs.Listed.{list_base}
 use Rattle.lookup.specs.Lists.{filled}
-use Rattle.placing.specs.Lists.{tr_of, looked_up, gathered, Gathers}
+use Rattle.translation.specs.Tables.{tr_of}
+use Rattle.placing.specs.Lists.{looked_up, gathered, Gathers}
 use Rattle.placing.proofs.Areas.{gathered_next}
 
 -- ---- the inputs gathered
@@ -25,8 +26,8 @@ module _ (src l : List ℕ) (c : Bool) (f : ℕ) where
   gather_none = refl
 
   module _ (n : ℕ) (P : Gathers src l f n) (m : List ℕ) (j : ℕ) (I : (j ≤ n) × (length m ≡ length l) × (m ≡ gathered src l c f j)) where
-    pub gather_long : 16384 ≤ length m
-    gather_long = rw I.1 P.long
+    pub gather_long : span ≤ length m
+    gather_long = omega (arith, I.1, P.long)
 
     module _ (h : j < n) where
       pub gather_place : Fits w64 (f + j)
@@ -36,10 +37,7 @@ module _ (src l : List ℕ) (c : Bool) (f : ℕ) where
       gather_input = (omega (arith, P.ends), P.source)
 
       pub gather_word : list_base + j < length m
-      gather_word = omega (arith, P.ends, gather_long)
-
-      pub gather_count : Fits w64 (j + 1)
-      gather_count = record { fits = omega (arith, P.ends) }
+      gather_word = omega (arith, P.ends, P.long, I.1)
 
       pub gather_next : (x s : ℕ) (o : List ℕ) → x ≡ input_at src (f + j) → s ≡ looked_up c (tr_of m) x → length o ≡ length m → o ≡ store m list_base j s
           → (j + 1 ≤ n) × (length o ≡ length l) × (o ≡ gathered src l c f (j + 1))
@@ -74,9 +72,6 @@ module _ (l : List ℕ) (at : ℕ) where
 
       pub append_room : (at + j < 2048) × (net_size ≤ length m)
       append_room = (omega (arith, P.1), omega (arith, P.0, I.1))
-
-      pub append_count : Fits w64 (j + 1)
-      append_count = record { fits = omega (arith, P.1) }
 
       pub append_next : (s : ℕ) (o : List ℕ) → s ≡ cell m list_base j → length o ≡ length m → o ≡ put_input m (at + j) s
           → (j + 1 ≤ n) × (length o ≡ length l) × (o ≡ put (j + 1))

@@ -27,12 +27,14 @@ use Rattle.gates.specs.declared.Normalization.TheVariants.{Copy, Node}
 use Rattle.gates.specs.Normals.{normal_of, Shaped}
 use Rattle.shape.proofs.DedupNormal.{NormLaw, as_is_law, canonical_law, made_few}
 use Rattle.shape.proofs.DedupSweep.{shaped_remap}
-use Rattle.same_gate.specs.Listed.{list_base, listed}
-use Rattle.placing.specs.Lists.{tr_of, looked_up, gathered, norm_of, with_table, count_of, Gathers}
+use Rattle.same_gate.specs.Listed.{list_base}
+use Rattle.translation.specs.Tables.{tr_of}
+use Rattle.translation.proofs.Translated.{tr_of_same}
+use Rattle.placing.specs.Lists.{looked_up, gathered, norm_of, with_table, count_of, Gathers}
 use Rattle.lookup.specs.Chains.{head_base, link_base}
 use Rattle.placing.specs.States.{work_of, Settles, Asks, Did, asked_gate}
 use Rattle.placing.specs.declared.Built.{Built}
-use Rattle.placing.proofs.Areas.{tr_of_same, length_gathered, cell_gathered, listed_gathered}
+use Rattle.placing.proofs.Areas.{length_gathered, cell_gathered, listed_gathered}
 use Rattle.placing.proofs.Standing.{stands_agree, chained_agree, nodes_of_agree, work≡}
 
 -- dedup's two normalizations keep their law
@@ -266,7 +268,7 @@ module _ (src l : List ℕ) (v : ℕ) (b : Built) (A : Asks src l v b) (c can : 
       same_cell c j h = get_or_back m ys long_m (c + j) h ∙ ap (λ (x : List ℕ). get_or x (c + j) 0) is_filled ∙ filled_same (c + j) h
 
       same_trans : tr_of (back m ys) ≡ tr_of l
-      same_trans = tr_of_same (back m ys) l (rw same_long A.room.stands.long) A.room.stands.long (λ w h. same_cell tr_base w (omega arith))
+      same_trans = tr_of_same (back m ys) l (omega (arith, same_long, A.room.stands.long)) (omega (arith, A.room.stands.long)) (λ w h. same_cell tr_base w (omega arith))
 
       pub asks_settle : Settles (back m ys) v b r
       asks_settle =

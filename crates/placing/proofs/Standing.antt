@@ -32,14 +32,16 @@ use Rattle.signal.specs.declared.Signal.{Signal}
 use Rattle.shape.proofs.DedupPlace.{find_at}
 use Rattle.same_gate.specs.Listed.{list_base, listed, Searched}
 use Rattle.lookup.specs.Lists.{as_option}
-use Rattle.placing.specs.Lists.{tr_of, with_table, count_of}
+use Rattle.same_gate.specs.declared.Sought.{Sought}
+use Rattle.translation.specs.Tables.{tr_of}
+use Rattle.translation.proofs.Translated.{tr_of_same, tr_of_store, tr_of_put_node}
+use Rattle.placing.specs.Lists.{with_table, count_of}
 use Rattle.lookup.specs.Chains.{bucket_of, head_base, link_base, Chained, joined, Seeks}
 use Rattle.placing.specs.States.{Stands, Room, Appended, Placed, Settles, Did}
 use Rattle.placing.specs.declared.Built.{Built}
-use Rattle.lookup.specs.declared.find.Found.{Found}
-use Rattle.lookup.specs.declared.find.Found.TheVariants.{At, Nothing}
+use Rattle.std.specs.Prelude.{Option, Some, None}
 use Rattle.placing.specs.declared.place.Spot.{Spot}
-use Rattle.placing.proofs.Areas.{tr_of_same, tr_of_store, tr_of_put_node, part_tab}
+use Rattle.placing.proofs.Areas.{part_tab}
 use Rattle.lookup.proofs.Chains.{chained_same, length_joined, cell_joined, chained_joined}
 
 -- what may be searched
@@ -94,18 +96,18 @@ unfolding joined
 joined_agree l v h i q = store_agree (store l link_base v (cell l head_base h)) head_base h (v + 1) (omega arith) i q ∙ store_agree l link_base v (cell l head_base h) (omega arith) i q
 
 -- where the gate in the list is searched for
-pub room_seeks : (l : List ℕ) (b : Built) (k n lo hi h : ℕ) → Room l b n → h ≡ bucket_of (listed l k n lo hi) → Seeks l b.nodes h (listed l k n lo hi)
-room_seeks l b k n lo hi h R e = record { searched = stands_searched l b R.stands; chained = R.chained; bucket = e }
+pub room_seeks : (l : List ℕ) (b : Built) (g : Sought) (h : ℕ) → Room l b g.n → h ≡ bucket_of (listed l g) → Seeks l b.nodes h (listed l g)
+room_seeks l b g h R e = record { searched = stands_searched l b R.stands; chained = R.chained; bucket = e }
 
 -- ---- a gate appended
 
 -- store by store
-pub appended : (l p q s m : List ℕ) (b : Built) (h k n lo hi : ℕ) (r : Built) → p ≡ put_inputs l b.fanin (cell l list_base) n → q ≡ put_gate p b.nodes k b.fanin n
-    → s ≡ put_table q b.nodes lo hi → m ≡ joined s b.nodes h → r.nodes ≡ b.nodes + 1 → r.fanin ≡ b.fanin + n → Appended l m b h k n lo hi r
+pub appended : (l p q s m : List ℕ) (b : Built) (h : ℕ) (g : Sought) (r : Built) → p ≡ put_inputs l b.fanin (cell l list_base) g.n → q ≡ put_gate p b.nodes g.kind b.fanin g.n
+    → s ≡ put_table q b.nodes g.low g.high → m ≡ joined s b.nodes h → r.nodes ≡ b.nodes + 1 → r.fanin ≡ b.fanin + g.n → Appended l m b h g r
 unfolding put_node
-appended l p q s m b h k n lo hi r ep eq es em en ef = record {
+appended l p q s m b h g r ep eq es em en ef = record {
   words = em
-      ∙ ap (λ (x : List ℕ). joined x b.nodes h) (es ∙ ap (λ (x : List ℕ). put_table x b.nodes lo hi) (eq ∙ ap (λ (x : List ℕ). put_gate x b.nodes k b.fanin n) ep));
+      ∙ ap (λ (x : List ℕ). joined x b.nodes h) (es ∙ ap (λ (x : List ℕ). put_table x b.nodes g.low g.high) (eq ∙ ap (λ (x : List ℕ). put_gate x b.nodes g.kind b.fanin g.n) ep));
   nodes_is = en;
   fanin_is = ef;
 }
@@ -133,9 +135,9 @@ module _ (l : List ℕ) (b : Built) (n : ℕ) (R : Room l b n) where
   pub append_fanin : Fits w64 (b.fanin + n)
   append_fanin = record { fits = omega (arith, R.fits) }
 
-module _ (l : List ℕ) (b : Built) (k n lo hi : ℕ) (R : Room l b n) where
+module _ (l : List ℕ) (b : Built) (g : Sought) (R : Room l b g.n) where
   abbrev put : List ℕ
-  put = put_node l b.nodes k b.fanin (cell l list_base) n lo hi
+  put = put_node l b.nodes g.kind b.fanin (cell l list_base) g.n g.low g.high
 
   abbrev long : net_size ≤ length l
   long = R.stands.packed.long
@@ -143,36 +145,36 @@ module _ (l : List ℕ) (b : Built) (k n lo hi : ℕ) (R : Room l b n) where
   same_below : (w : ℕ) → w ≤ b.nodes → nodes_of put w ≡ nodes_of l w
   same_below w h =
       let few = R.more in
-      nodes_of_same put l w (λ u q. gate_at_put_node_other l b.nodes k b.fanin (cell l list_base) n lo hi R.more R.fits long u (omega arith) (omega arith) (R.stands.packed.ends u (omega arith)))
+      nodes_of_same put l w (λ u q. gate_at_put_node_other l b.nodes g.kind b.fanin (cell l list_base) g.n g.low g.high R.more R.fits long u (omega arith) (omega arith) (R.stands.packed.ends u (omega arith)))
 
   first_put : first_at put b.nodes ≡ b.fanin
   unfolding put_node
   first_put =
-      let y : net_size ≤ length (put_inputs l b.fanin (cell l list_base) n) = rw length_put_inputs long in
-      first_at_put_table _ b.nodes lo hi b.nodes R.more ∙ first_at_put_gate _ b.nodes k b.fanin n R.more y
+      let y : net_size ≤ length (put_inputs l b.fanin (cell l list_base) g.n) = rw length_put_inputs long in
+      first_at_put_table _ b.nodes g.low g.high b.nodes R.more ∙ first_at_put_gate _ b.nodes g.kind b.fanin g.n R.more y
 
-  put_gates : nodes_of put (b.nodes + 1) ≡ nodes_of l b.nodes ++ (listed l k n lo hi ∷ [])
+  put_gates : nodes_of put (b.nodes + 1) ≡ nodes_of l b.nodes ++ (listed l g ∷ [])
   unfolding listed
-  put_gates = rw add-one (nodes_of_put_node l b.nodes b.fanin R.stands.packed k (cell l list_base) n lo hi R.more R.fits)
+  put_gates = rw add-one (nodes_of_put_node l b.nodes b.fanin R.stands.packed g.kind (cell l list_base) g.n g.low g.high R.more R.fits)
 
-  put_total : b.fanin + n ≡ fanin (nodes_of put (b.nodes + 1))
+  put_total : b.fanin + g.n ≡ fanin (nodes_of put (b.nodes + 1))
   unfolding listed
   put_total =
-      sym (ap fanin put_gates ∙ fanin_append (nodes_of l b.nodes) (listed l k n lo hi ∷ []) ∙ ap₂ ◌+◌ (sym R.stands.total) (fanin_one (listed l k n lo hi) ∙ length_tab (cell l list_base) n))
+      sym (ap fanin put_gates ∙ fanin_append (nodes_of l b.nodes) (listed l g ∷ []) ∙ ap₂ ◌+◌ (sym R.stands.total) (fanin_one (listed l g) ∙ length_tab (cell l list_base) g.n))
 
   put_firsts : (w : ℕ) → w < b.nodes + 1 → first_at put w ≡ fanin (nodes_of put w)
   put_firsts w h = elim (ℕ_discrete w b.nodes) [
     | yes e ↦ rw e (first_put ∙ R.stands.total ∙ sym (ap fanin (same_below b.nodes (omega arith))))
     | no e ↦ (let few = R.more in
-        first_at_put_node l b.nodes k b.fanin (cell l list_base) n lo hi R.more R.fits long w (omega arith) e
+        first_at_put_node l b.nodes g.kind b.fanin (cell l list_base) g.n g.low g.high R.more R.fits long w (omega arith) e
         ∙ R.stands.firsts w (omega arith)
         ∙ sym (ap fanin (same_below w (omega arith))))
   ]
 
-  put_stands : (r : Built) → r.nodes ≡ b.nodes + 1 → r.fanin ≡ b.fanin + n → Stands put r
+  put_stands : (r : Built) → r.nodes ≡ b.nodes + 1 → r.fanin ≡ b.fanin + g.n → Stands put r
   put_stands r e f = record {
     long = rw length_put_node R.stands.long;
-    packed = rw (e, f, add-one) (packed_put_node l b.nodes b.fanin R.stands.packed k (cell l list_base) n lo hi R.more R.fits);
+    packed = rw (e, f, add-one) (packed_put_node l b.nodes b.fanin R.stands.packed g.kind (cell l list_base) g.n g.low g.high R.more R.fits);
     firsts = λ v h. put_firsts v (rw e at h);
     total = rw (e, f) put_total;
   }
@@ -181,16 +183,16 @@ module _ (l : List ℕ) (b : Built) (k n lo hi : ℕ) (R : Room l b n) where
   put_chained =
       let few = R.more in
       chained_same l put b.nodes
-      (λ u q. gate_at_put_node_other l b.nodes k b.fanin (cell l list_base) n lo hi R.more R.fits long u (omega arith) (omega arith) (R.stands.packed.ends u q)) R.chained
-      (λ h q. cell_put_node l b.nodes k b.fanin (cell l list_base) n lo hi R.more R.fits head_base h (omega arith))
-      (λ v q. cell_put_node l b.nodes k b.fanin (cell l list_base) n lo hi R.more R.fits link_base v (omega arith)) (omega arith)
+      (λ u q. gate_at_put_node_other l b.nodes g.kind b.fanin (cell l list_base) g.n g.low g.high R.more R.fits long u (omega arith) (omega arith) (R.stands.packed.ends u q)) R.chained
+      (λ h q. cell_put_node l b.nodes g.kind b.fanin (cell l list_base) g.n g.low g.high R.more R.fits head_base h (omega arith))
+      (λ v q. cell_put_node l b.nodes g.kind b.fanin (cell l list_base) g.n g.low g.high R.more R.fits link_base v (omega arith)) (omega arith)
 
-  put_gate_lem : gate_at put b.nodes ≡ listed l k n lo hi
+  put_gate_lem : gate_at put b.nodes ≡ listed l g
   unfolding listed
-  put_gate_lem = gate_at_put_node l b.nodes k b.fanin (cell l list_base) n lo hi R.more R.fits long
+  put_gate_lem = gate_at_put_node l b.nodes g.kind b.fanin (cell l list_base) g.n g.low g.high R.more R.fits long
 
   -- and put before its chain
-  module _ (h : ℕ) (eh : h ≡ bucket_of (listed l k n lo hi)) (r : Built) (rn : r.nodes ≡ b.nodes + 1) (rf : r.fanin ≡ b.fanin + n) where
+  module _ (h : ℕ) (eh : h ≡ bucket_of (listed l g)) (r : Built) (rn : r.nodes ≡ b.nodes + 1) (rf : r.fanin ≡ b.fanin + g.n) where
     abbrev grown : List ℕ
     grown = joined put b.nodes h
 
@@ -208,24 +210,24 @@ module _ (l : List ℕ) (b : Built) (k n lo hi : ℕ) (R : Room l b n) where
     grown_stands : Stands grown r
     grown_stands = stands_agree put grown (joined_agree put b.nodes h) (length_joined put b.nodes h) r (put_stands r rn rf)
 
-    grown_gates : nodes_of grown r.nodes ≡ nodes_of l b.nodes ++ (listed l k n lo hi ∷ [])
+    grown_gates : nodes_of grown r.nodes ≡ nodes_of l b.nodes ++ (listed l g ∷ [])
     grown_gates =
         nodes_of_agree put grown (joined_agree put b.nodes h) (length_joined put b.nodes h) r (put_stands r rn rf) r.nodes (omega arith)
         ∙ ap (nodes_of put) rn ∙ put_gates
 
     grown_trans : tr_of grown ≡ tr_of l
     grown_trans =
-        tr_of_same grown put (rw length_joined long_put) long_put (λ v q. cell_joined put b.nodes h tr_base v (omega arith))
-        ∙ tr_of_put_node l R.stands.long b.nodes k b.fanin (cell l list_base) n lo hi R.more R.fits
+        tr_of_same grown put (rw length_joined (omega (arith, long_put))) (omega (arith, long_put)) (λ v q. cell_joined put b.nodes h tr_base v (omega arith))
+        ∙ tr_of_put_node l (omega (arith, R.stands.long)) b.nodes g.kind b.fanin (cell l list_base) g.n g.low g.high R.more R.fits
 
   -- THE TWO WAYS OF A LOOKUP
-  pub place_found : (f : Found) (w : ℕ) (p : Spot) → as_option f ≡ find_gate (listed l k n lo hi) (nodes_of l b.nodes) → f ≡ At w
-      → p.built ≡ b → p.node ≡ w → Placed l l b (listed l k n lo hi) p
+  pub place_found : (f : Option ℕ) (w : ℕ) (p : Spot) → as_option f ≡ find_gate (listed l g) (nodes_of l b.nodes) → f ≡ Some w
+      → p.built ≡ b → p.node ≡ w → Placed l l b (listed l g) p
   unfolding place
   place_found f w p e q pb pn =
-      let s : find_gate (listed l k n lo hi) (nodes_of l b.nodes) ≡ some w = sym e ∙ ap as_option q in
+      let s : find_gate (listed l g) (nodes_of l b.nodes) ≡ some w = sym e ∙ ap as_option q in
       let few = R.more in
-      let at = find_at (listed l k n lo hi) (nodes_of l b.nodes) w s in
+      let at = find_at (listed l g) (nodes_of l b.nodes) w s in
       record {
         stands = subst (λ (c : Built). Stands l c) (sym pb) R.stands;
         gates = rw (s, pb);
@@ -235,12 +237,12 @@ module _ (l : List ℕ) (b : Built) (k n lo hi : ℕ) (R : Room l b n) where
         trans = refl;
       }
 
-  pub place_new : (m : List ℕ) (h : ℕ) (f : Found) (r : Built) (p : Spot) → h ≡ bucket_of (listed l k n lo hi)
-      → as_option f ≡ find_gate (listed l k n lo hi) (nodes_of l b.nodes) → f ≡ Nothing
-      → Appended l m b h k n lo hi r → p.built ≡ r → p.node ≡ b.nodes → Placed l m b (listed l k n lo hi) p
+  pub place_new : (m : List ℕ) (h : ℕ) (f : Option ℕ) (r : Built) (p : Spot) → h ≡ bucket_of (listed l g)
+      → as_option f ≡ find_gate (listed l g) (nodes_of l b.nodes) → f ≡ None
+      → Appended l m b h g r → p.built ≡ r → p.node ≡ b.nodes → Placed l m b (listed l g) p
   unfolding place
   place_new m h f r p eh e q a pb pn =
-      let s : find_gate (listed l k n lo hi) (nodes_of l b.nodes) ≡ none = sym e ∙ ap as_option q in
+      let s : find_gate (listed l g) (nodes_of l b.nodes) ≡ none = sym e ∙ ap as_option q in
       let few = R.more in
       rw a.words (record {
         stands = subst (λ (c : Built). Stands (grown h eh r a.nodes_is a.fanin_is) c) (sym pb) (grown_stands h eh r a.nodes_is a.fanin_is);
@@ -279,11 +281,11 @@ module _ (l : List ℕ) (v : ℕ) (b : Built) (r : Normalization) (S : Settles l
       rw w (record {
         stands = stands_agree l (store l tr_base v x) a z b st;
         chained = chained_agree l (store l tr_base v x) a z b st S.room.chained (λ h q. cell_store_other l tr_base v x head_base h (omega (arith, S.node))) (λ u q. cell_store_other l tr_base v x link_base u (omega (arith, S.node)));
-        work = rw e (work≡ (tr_of_store l v x st.long S.node) (nodes_of_agree l (store l tr_base v x) a z b st b.nodes (omega arith)));
+        work = rw e (work≡ (tr_of_store l v x (omega (arith, st.long)) S.node) (nodes_of_agree l (store l tr_base v x) a z b st b.nodes (omega arith)));
       })
 
   pub settle_node : (lo hi : ℕ) (k : Kind) (n : ℕ) (t : Bool) (c : ℕ) (m : List ℕ) (p : Spot) (x y : ℕ) (o : List ℕ) → r ≡ Node k n t → c ≡ code_of k
-      → Placed l m b (listed l c n lo hi) p → x ≡ from_var p.node → y ≡ flip x t → o ≡ store m tr_base v y
+      → Placed l m b (listed l (record { kind = c; n = n; low = lo; high = hi })) p → x ≡ from_var p.node → y ≡ flip x t → o ≡ store m tr_base v y
       → Did l o v b (with_table (lo + 2 ^ 32 * hi) (normal_of r (drop list_base l))) p.built
   unfolding dedup_node normal_of listed
   settle_node lo hi k n t c m p x y o e ec P ex ey w =
@@ -294,11 +296,11 @@ module _ (l : List ℕ) (v : ℕ) (b : Built) (r : Normalization) (S : Settles l
       let cn : count_of r ≡ n = ap count_of e in
       let few : list_base + n ≤ length l = omega (arith, room.fits, room.stands.long) in
       let ins : take n (drop list_base l) ≡ tab (cell l list_base) n = part_tab l list_base n few in
-      let signal : y ≡ flip (from_var (place (listed l c n lo hi) (nodes_of l b.nodes)).pos) t = ey ∙ ap (λ (q : ℕ). flip q t) (ex ∙ ap (λ (q : ℕ). from_var q) P.node_is) in
+      let signal : y ≡ flip (from_var (place (listed l (record { kind = c; n = n; low = lo; high = hi })) (nodes_of l b.nodes)).pos) t = ey ∙ ap (λ (q : ℕ). flip q t) (ex ∙ ap (λ (q : ℕ). from_var q) P.node_is) in
       rw w (record {
         stands = stands_agree m (store m tr_base v y) a z p.built st;
         chained = chained_agree m (store m tr_base v y) a z p.built st P.chained (λ h q. cell_store_other m tr_base v y head_base h (omega (arith, S.node))) (λ u q. cell_store_other m tr_base v y link_base u (omega (arith, S.node)));
         work = rw (e, ins, ← ec) (work≡
-            (tr_of_store m v y st.long S.node ∙ ap₂ (λ (τ : ℕ → ℕ) (q : ℕ). upd τ v q) P.trans signal)
+            (tr_of_store m v y (omega (arith, st.long)) S.node ∙ ap₂ (λ (τ : ℕ → ℕ) (q : ℕ). upd τ v q) P.trans signal)
             (nodes_of_agree m (store m tr_base v y) a z p.built st p.built.nodes (omega arith) ∙ P.gates));
       })

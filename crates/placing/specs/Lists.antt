@@ -1,18 +1,22 @@
 -- A gate gathered into the list, as it is looked up, and normalized there.
-use Rattle.std.specs.Prelude.{ℕ, ◌+◌, ◌≤◌, Bool, true, false, cond, List, length, get_or, take, drop}
+use Rattle.std.specs.Prelude.{ℕ, ◌+◌, ◌≤◌, Bool, true, false, cond, List, length}
 use Rattle.model.specs.Signal.{remap_order}
 use Rattle.model.specs.Gate.{Gate}
 use Rattle.model.specs.Normal.{Norm, copied, made, make_canonical}
 use Rattle.model.specs.Network.{as_is}
-use Rattle.tables.specs.Layout.{net_size, tr_base, input_at}
+use Rattle.tables.specs.Layout.{net_size, input_at}
+use Rattle.translation.specs.Tables.{tr_of}
 use Rattle.gates.specs.declared.Normalization.{Normalization}
 use Rattle.gates.specs.declared.Normalization.TheVariants.{Copy, Node}
 use Rattle.same_gate.specs.Listed.{list_base}
 use Rattle.lookup.specs.Lists.{filled}
+use Rattle.placing.specs.declared.list.Sweep.{Sweep}
+use Rattle.placing.specs.declared.list.Sweep.TheVariants.{FlipFlops, Gates}
 
--- the translation that the table of words holds: a signal for each of 512 nodes
-unfoldable pub tr_of : List ℕ → ℕ → ℕ
-tr_of l v = get_or (take 512 (drop tr_base l)) v 0
+-- whether a sweep merges the flip-flops
+abbrev pub of_flip_flops : Sweep → Bool
+of_flip_flops FlipFlops = true
+of_flip_flops Gates = false
 
 -- the signal that a gate is looked up by: a flip-flop's is the old one
 abbrev pub looked_up : Bool → (ℕ → ℕ) → ℕ → ℕ

@@ -7,7 +7,9 @@ use Rattle.tables.specs.Layout.{net_size, first_at, count_at, gate_at, nodes_of,
 use Rattle.tables.specs.Building.{Packed, put_node}
 use Rattle.gates.specs.declared.Normalization.{Normalization}
 use Rattle.same_gate.specs.Listed.{list_base}
-use Rattle.placing.specs.Lists.{tr_of, count_of}
+use Rattle.same_gate.specs.declared.Sought.{Sought}
+use Rattle.translation.specs.Tables.{tr_of}
+use Rattle.placing.specs.Lists.{count_of}
 use Rattle.lookup.specs.Chains.{Chained, joined}
 use Rattle.placing.specs.declared.Built.{Built}
 use Rattle.placing.specs.declared.place.Spot.{Spot}
@@ -31,10 +33,10 @@ pub record Room (l : List ℕ) (b : Built) (n : ℕ) : Type 0 where
   pub more : b.nodes < 512
   pub fits : b.fanin + n ≤ 2048
 
-pub record Appended (l m : List ℕ) (b : Built) (h k n lo hi : ℕ) (r : Built) : Type 0 where
-  pub words : m ≡ joined (put_node l b.nodes k b.fanin (cell l list_base) n lo hi) b.nodes h
+pub record Appended (l m : List ℕ) (b : Built) (h : ℕ) (g : Sought) (r : Built) : Type 0 where
+  pub words : m ≡ joined (put_node l b.nodes g.kind b.fanin (cell l list_base) g.n g.low g.high) b.nodes h
   pub nodes_is : r.nodes ≡ b.nodes + 1
-  pub fanin_is : r.fanin ≡ b.fanin + n
+  pub fanin_is : r.fanin ≡ b.fanin + g.n
 
 pub record Placed (l m : List ℕ) (b : Built) (g : Gate) (r : Spot) : Type 0 where
   pub stands : Stands m r.built

@@ -6,18 +6,18 @@ use mathlib.Core.Bool.{true, false}
 use mathlib.Core.List.{List, []}
 use lib.ListN.{length}
 use borrow.Author.Tests.{le-leb, lt-leb, ne_eqb}
-use Rattle.answers.specs.declared.Answer.{Answer}
-use Rattle.answers.specs.declared.Answer.TheVariants.{Accepted, Refused}
+use Rattle.model.specs.Answers.{Answer}
+use Rattle.std.specs.Prelude.{Ok, Err}
 use Rattle.model.specs.Image.{sorted_refusal_of}
 use Rattle.model.specs.Answers.{answer_of, areas_short, in_areas, in_room, unless, written}
 
 module _ (img out a b : List ℕ) (k : ℕ) (image : List ℕ) (r : Answer) where
   pub told : r ≡ answer_of (in_areas a b (in_room (length out) 0 (unless (sorted_refusal_of img) (unless k (written image [])))))
-      → (areas_short a b ≡ true → r ≡ Refused 1)
-      × (areas_short a b ≡ false → sorted_refusal_of img ≢ 0 → r ≡ Refused (sorted_refusal_of img))
-      × (areas_short a b ≡ false → sorted_refusal_of img ≡ 0 → k ≢ 0 → r ≡ Refused k)
-      × (areas_short a b ≡ false → sorted_refusal_of img ≡ 0 → k ≡ 0 → length out < length image → r ≡ Refused 13)
-      × (areas_short a b ≡ false → sorted_refusal_of img ≡ 0 → k ≡ 0 → length image ≤ length out → r ≡ Accepted (length image))
+      → (areas_short a b ≡ true → r ≡ Err 1)
+      × (areas_short a b ≡ false → sorted_refusal_of img ≢ 0 → r ≡ Err (sorted_refusal_of img))
+      × (areas_short a b ≡ false → sorted_refusal_of img ≡ 0 → k ≢ 0 → r ≡ Err k)
+      × (areas_short a b ≡ false → sorted_refusal_of img ≡ 0 → k ≡ 0 → length out < length image → r ≡ Err 13)
+      × (areas_short a b ≡ false → sorted_refusal_of img ≡ 0 → k ≡ 0 → length image ≤ length out → r ≡ Ok (length image))
   unfolding in_areas unless
   told e = (
     λ short. e ∙ rw short,

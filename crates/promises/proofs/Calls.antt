@@ -9,7 +9,7 @@ use lib.ListN.{length, get_or, drop, replicate, length-append, length-drop, leng
 use lib.Seq.{get_or-append-add, get_or-drop}
 use lib.Dec.{eqb, ltb}
 use borrow.Author.Tests.{eqb-true, ltb-false, le-ltb}
-use Rattle.answers.specs.declared.Answer.TheVariants.{Accepted}
+use Rattle.std.specs.Prelude.{Ok}
 use Rattle.laws.specs.Bools.{bit}
 use Rattle.laws.specs.Lists.{All}
 use Rattle.laws.proofs.Bools.{or_left, or_right}
@@ -25,7 +25,7 @@ use Rattle.meaning.proofs.Runs.{beyond, next_beyond}
 
 -- an outcome that answers 0, and the outputs' bytes that it gives
 abbrev pub Good : Outcome → Type 0
-Good o = answer_of o ≡ Accepted 0
+Good o = answer_of o ≡ Ok 0
 
 abbrev pub given : Outcome → List ℕ
 given (refused n) = []

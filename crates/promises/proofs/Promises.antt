@@ -20,8 +20,8 @@ use mathlib.Core.List.{List, [], map}
 use lib.ListN.{length, take}
 use lib.Dec.{ltb}
 use borrow.Author.Tests.{le-leb, lt-leb, ne_eqb}
-use Rattle.answers.specs.declared.Answer.{Answer}
-use Rattle.answers.specs.declared.Answer.TheVariants.{Accepted, Refused}
+use Rattle.model.specs.Answers.{Answer}
+use Rattle.std.specs.Prelude.{Ok, Err}
 use Rattle.kinds.specs.Kinds.{kind_of}
 use Rattle.kinds.specs.declared.Family.{Family}
 use Rattle.laws.specs.Bools.{bit}
@@ -95,11 +95,11 @@ module _ (N : Net) (valid : Valid N) (sorted : is_topo_sorted N ≡ true) where
 -- What such an entry answers, line by line: k is the number that the pass itself meets, or 0, and `image` the image of its result. The five
 -- cases exclude each other, and there is no sixth: so each number is answered exactly where its line says, and acceptance everywhere else.
 pub record Answers (img out a b : List ℕ) (k : ℕ) (image : List ℕ) (r : Answer) : Type 0 where
-  pub on_1 : areas_short a b ≡ true → r ≡ Refused 1
-  pub on_2_to_7 : areas_short a b ≡ false → sorted_refusal_of img ≢ 0 → r ≡ Refused (sorted_refusal_of img)
-  pub on_9_to_12 : areas_short a b ≡ false → sorted_refusal_of img ≡ 0 → k ≢ 0 → r ≡ Refused k
-  pub on_13 : areas_short a b ≡ false → sorted_refusal_of img ≡ 0 → k ≡ 0 → length out < length image → r ≡ Refused 13
-  pub on_0 : areas_short a b ≡ false → sorted_refusal_of img ≡ 0 → k ≡ 0 → length image ≤ length out → r ≡ Accepted (length image)
+  pub on_1 : areas_short a b ≡ true → r ≡ Err 1
+  pub on_2_to_7 : areas_short a b ≡ false → sorted_refusal_of img ≢ 0 → r ≡ Err (sorted_refusal_of img)
+  pub on_9_to_12 : areas_short a b ≡ false → sorted_refusal_of img ≡ 0 → k ≢ 0 → r ≡ Err k
+  pub on_13 : areas_short a b ≡ false → sorted_refusal_of img ≡ 0 → k ≡ 0 → length out < length image → r ≡ Err 13
+  pub on_0 : areas_short a b ≡ false → sorted_refusal_of img ≡ 0 → k ≡ 0 → length image ≤ length out → r ≡ Ok (length image)
 
 answers : (img out a b : List ℕ) (k : ℕ) (image : List ℕ) (r : Answer) → r ≡ answer_of (in_areas a b (in_room (length out) 0 (unless (sorted_refusal_of img) (unless k (written image [])))))
     → Answers img out a b k image r
@@ -115,7 +115,7 @@ module _ (img out a b : List ℕ) (limit : ℕ) (r : Answer) (out' a' b' : List 
   share_answers = let t = told img out a b _ _ r (call.answer ∙ rw (unless_twice (ltb 2048 (flattened_inputs (net_of img) limit)) 9)) in record { on_1 = t.0; on_2_to_7 = t.1; on_9_to_12 = t.2; on_13 = t.3; on_0 = t.4 }
 
   -- Where it accepted with length n, the image that it wrote is the first n bytes of out:
-  module _ (n : ℕ) (accepts : r ≡ Accepted n) where
+  module _ (n : ℕ) (accepts : r ≡ Ok n) where
     -- (what it wrote, from below)
     wrote : Wrote img ((flattened_inputs (net_of img) limit ≤ 2048) × (factor_refusal (flatten_nary (net_of img) limit) ≡ 0)) (share_logic (net_of img) limit) n out'
     wrote = share_wrote img out a b r out' a' b' n accepts limit call
@@ -157,7 +157,7 @@ module _ (img out a b : List ℕ) (r : Answer) (out' a' b' : List ℕ) where
   unfolding factor_outcome
   factor_answers call = let t = told img out a b _ _ r (call.answer ∙ rw (unless_twice (any_repeats (net_of img).nodes) 8)) in record { on_1 = t.0; on_2_to_7 = t.1; on_9_to_12 = t.2; on_13 = t.3; on_0 = t.4 }
 
-module _ (img out a b : List ℕ) (r : Answer) (out' a' b' : List ℕ) (n : ℕ) (accepts : r ≡ Accepted n) where
+module _ (img out a b : List ℕ) (r : Answer) (out' a' b' : List ℕ) (n : ℕ) (accepts : r ≡ Ok n) where
   module _ (limit : ℕ) (call : Kept (flatten_outcome img out a b limit) out a b r out' a' b') where
     pub flatten_image_accepted : sorted_refusal_of (take n out') ≡ 0
     flatten_image_accepted = (flatten_wrote img out a b r out' a' b' n accepts limit call).accepted
@@ -240,7 +240,7 @@ module _ (N : Net) (valid : Valid N) where
 -- Canonical, dedup, cleanup or sort was called with img, out, map, a and b, and accepted with length n; N is the network of img. The image
 -- that it wrote is accepted, has the same outputs in every cycle from zero, and word v of the mapping is a signal with node v's value
 -- (`Carried`): by the values that evaluation gives, of every node, or of those that outputs reach;
-module _ (img out map a b : List ℕ) (r : Answer) (out' map' a' b' : List ℕ) (n : ℕ) (accepts : r ≡ Accepted n) where
+module _ (img out map a b : List ℕ) (r : Answer) (out' map' a' b' : List ℕ) (n : ℕ) (accepts : r ≡ Ok n) where
   abbrev N : Net
   N = net_of img
 
@@ -259,7 +259,7 @@ module _ (img out map a b : List ℕ) (r : Answer) (out' map' a' b' : List ℕ) 
 
 -- Sort was called with areas that are long enough and an image that is read: it answers 8 exactly where a path of combinational gates returns.
 pub sort_answers_8 : (img out map a b : List ℕ) (r : Answer) (out' map' a' b' : List ℕ) → Kept2 (sort_outcome img out map a b) out map a b r out' map' a' b'
-    → areas_short a b ≡ false → refusal_of img ≡ 0 → (r ≡ Refused 8) ↔ Cycle (net_of img)
+    → areas_short a b ≡ false → refusal_of img ≡ 0 → (r ≡ Err 8) ↔ Cycle (net_of img)
 sort_answers_8 img out map a b r out' map' a' b' call long sound =
     rw call.first.answer (Iff.trans (sort_8 img out map a b long sound) (unsorted_cycle (net_of img) (valid_net img sound).signals, cycle_unsorted (net_of img) (valid_net img sound).signals))
 
@@ -280,7 +280,7 @@ pub writing_what_was_read : (img : List ℕ) → Bytes img → refusal_of img �
 writing_what_was_read img bytes accepted = (written_read img bytes accepted).same
 
 -- Read was called with an image of bytes, and accepted with length n: it wrote that image without its prefix.
-pub read_image : (img out a b : List ℕ) (r : Answer) (out' a' b' : List ℕ) → Kept (read_outcome img out a b) out a b r out' a' b' → (n : ℕ) → r ≡ Accepted n
+pub read_image : (img out a b : List ℕ) (r : Answer) (out' a' b' : List ℕ) → Kept (read_outcome img out a b) out a b r out' a' b' → (n : ℕ) → r ≡ Ok n
     → Bytes img → take n out' ≡ body_of img
 read_image img out a b r out' a' b' call n accepts bytes =
     let f = kept_found _ _ [] _ (read_writes img out a b) out a b r out' a' b' call n accepts in

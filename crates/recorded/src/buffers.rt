@@ -15,66 +15,29 @@ pub fn put(src: &[u8], dst: &mut [u8]) {
 
 // The n bytes from `from` on; none where buf ends before.
 pub fn slice(buf: &[u8], from: usize, n: usize) -> &[u8] {
-    if buf.len() <= from {
-        return &buf[..0];
-    }
-    if buf.len() - from < n {
-        return &buf[..0];
-    }
-    let to = from + n;
-    &buf[from..to]
-}
-
-// Byte i of what is expected, the pattern behind it.
-fn byte_or_pattern(want: &[u8], i: usize) -> u8 {
-    if i < want.len() { want[i] } else { BYTE }
+    buf.get(from..)
+        .and_then(|rest| rest.get(..n))
+        .unwrap_or(&[])
 }
 
 // Whether buf begins with want and has the pattern behind it.
 pub fn holds(buf: &[u8], want: &[u8]) -> bool {
-    let mut i: usize = 0;
-    while i < buf.len() {
-        if buf[i] != byte_or_pattern(want, i) {
-            return false;
-        }
-        i += 1;
-    }
-    want.len() <= buf.len()
-}
-
-fn word_or_pattern(want: &[u8], i: usize) -> u32 {
-    if i < want.len() / 4 {
-        return nth(want, i);
-    }
-    WORD
+    buf.strip_prefix(want)
+        .is_some_and(|behind| behind.iter().all(|b| *b == BYTE))
 }
 
 // The same of words, whose bytes want has.
 pub fn holds_words(buf: &[u32], want: &[u8]) -> bool {
-    let mut i: usize = 0;
-    while i < buf.len() {
-        if buf[i] != word_or_pattern(want, i) {
-            return false;
-        }
-        i += 1;
-    }
-    want.len() / 4 <= buf.len()
+    buf.split_at_checked(want.len() / 4).is_some_and(|(front, behind)| {
+        (0..front.len()).all(|i| front[i] == nth(want, i)) && behind.iter().all(|w| *w == WORD)
+    })
 }
 
-// What an entry that answers this number leaves in word i of an area of which n were lent: as it was for 1, else zero; and the pattern
-// behind.
-fn left_word(i: usize, n: usize, number: u32) -> u32 {
-    if (i < n) & (number != 1) { 0 } else { WORD }
-}
-
-// Whether an area is as the entry leaves it.
+// Whether an area of which n words were lent is as an entry leaves it that answers this number: those as they were for 1, else zero;
+// and the pattern behind.
 pub fn is_left(area: &[u32], n: usize, number: u32) -> bool {
-    let mut i: usize = 0;
-    while i < area.len() {
-        if area[i] != left_word(i, n, number) {
-            return false;
-        }
-        i += 1;
-    }
-    true
+    let left = if number == 1 { WORD } else { 0 };
+    area.iter()
+        .enumerate()
+        .all(|(i, w)| *w == if i < n { left } else { WORD })
 }

@@ -1,36 +1,47 @@
 // What an entry left, beside what is recorded: each comparison that does not hold is named on a writer.
-ghost use Rattle.std.specs.Prelude.{◌≡◌, ◌≤◌, IfOk};
+ghost use Rattle.std.specs.Prelude.{◌≡◌, IfOk};
 
-use crate::buffers::{holds, holds_words, is_left, slice};
+use crate::buffers::{holds, holds_words, is_left};
 use crate::telling::print;
-use crate::{part, size, word};
+use crate::{Field, Part, data, size, word};
 use std::io;
 use std::io::Write;
 
-// What is compared, as `expect` names it.
-pub const NUMBER: usize = 0;
+// What is compared.
+#[derive(Clone, Copy)]
+pub enum What {
+    Number,
+    Length,
+    Start,
+    Result,
+    Mapping,
+    State,
+    First,
+    Second,
+}
 
-pub const LENGTH: usize = 1;
-
-pub const START: usize = 2;
-
-pub const OUT: usize = 3;
-
-pub const MAPPING: usize = 4;
-
-pub const STATE: usize = 5;
-
-pub const FIRST: usize = 6;
-
-pub const SECOND: usize = 7;
+impl What {
+    // As it is printed, all as wide as the longest and a space.
+    fn name(self) -> &'static [u8] {
+        match self {
+            What::Number => b"number  ",
+            What::Length => b"length  ",
+            What::Start => b"start   ",
+            What::Result => b"result  ",
+            What::Mapping => b"mapping ",
+            What::State => b"state   ",
+            What::First => b"area 1  ",
+            What::Second => b"area 2  ",
+        }
+    }
+}
 
 // Passes a comparison on, and names what does not hold.
-pub fn expect<W: Write>(err: &mut W, what: usize, is: bool) -> io::Result<bool>
+pub fn expect<W: Write>(err: &mut W, what: What, is: bool) -> io::Result<bool>
     ensures { IfOk result (λ r. r ≡ is) }
 {
     if !is {
-        let names = b"number  length  start   result  mapping state   area 1  area 2  ";
-        print(err, slice(names, 8 * (what % 8), 8))?;
+        print(err, what.name())?;
     }
     Ok(is)
 }
@@ -38,31 +49,37 @@ pub fn expect<W: Write>(err: &mut W, what: usize, is: bool) -> io::Result<bool>
 // Whether buf has a part of the record, and the pattern behind it.
 pub fn has<W: Write>(
     err: &mut W,
-    what: usize,
+    what: What,
     record: &[u8],
-    k: usize,
+    wanted: Part,
     buf: &[u8],
-) -> io::Result<bool>
-    requires { k ≤ 7 }
-{
-    expect(err, what, holds(buf, part(record, k)))
+) -> io::Result<bool> {
+    expect(err, what, holds(buf, data(record, wanted)))
 }
 
 pub fn has_mapping<W: Write>(err: &mut W, record: &[u8], map: &[u32]) -> io::Result<bool> {
-    expect(err, MAPPING, holds_words(map, part(record, crate::MAPPING)))
+    expect(
+        err,
+        What::Mapping,
+        holds_words(map, data(record, Part::Mapping)),
+    )
 }
 
-// Whether an area, lent as word k of the record says, is as the entry leaves it.
+// Whether an area, of which as much was lent as a word of the record says, is as the entry leaves it.
 pub fn has_area<W: Write>(
     err: &mut W,
-    what: usize,
+    what: What,
     record: &[u8],
-    k: usize,
+    lent: Field,
     area: &[u32],
 ) -> io::Result<bool> {
     expect(
         err,
         what,
-        is_left(area, size(record, k), word(record, crate::NUMBER)),
+        is_left(
+            area,
+            size(record, lent),
+            word(record, Field::Number as usize),
+        ),
     )
 }

@@ -13,36 +13,29 @@ const MAGIC: u32 = 1095912524;
 
 const VERSION: u32 = 1;
 
-// How many records follow, 0 where this is no file of the entry.
-pub fn count(file: &[u8], entry: u32) -> u32 {
+// How many records follow; none where this is no file of the entry.
+pub fn count(file: &[u8], entry: u32) -> Option<u32> {
     if (word(file, 0) == MAGIC) & (word(file, 1) == VERSION) & (word(file, 2) == entry) {
-        return word(file, 3);
+        Some(word(file, 3))
+    } else {
+        None
     }
-    0
 }
 
-// The rest of a file's line.
-pub fn print_counts<W: Write>(
-    out: &mut W,
-    inputs: u32,
-    differ: u32,
-    is_whole: bool,
-) -> io::Result<()> {
-    if !is_whole {
+// The rest of a file's line: how many records there are and how many differ, none where it is damaged.
+pub fn print_counts<W: Write>(out: &mut W, counts: Option<(u32, u32)>) -> io::Result<()> {
+    let Some((inputs, differ)) = counts else {
         return print(out, b": damaged\n");
-    }
+    };
     print_number(out, b": ", inputs as u64)?;
     print_number(out, b" inputs, ", differ as u64)?;
     print(out, b" differ\n")
 }
 
 // Reads a file; answers how many bytes it has, none where it is not there. Where a read fails, the buffer has what was read before.
-pub fn read<R: Files>(rt: &R, path: &[u8], file: &mut [u8]) -> io::Result<usize>
+pub fn read<R: Files>(rt: &R, path: &str, file: &mut [u8]) -> io::Result<usize>
     ensures { ReadsAtMost result file.new }
 {
-    let Ok(path) = str::from_utf8(path) else {
-        return Ok(0);
-    };
     match File::open(rt, path) {
         Ok(mut opened) => read_full(&mut opened, file),
         Err(_) => Ok(0),

@@ -1,7 +1,7 @@
 // A record of docs/RECORDED.md as its bytes: the 16 words of its head and the parts of its data behind them.
 #![tactic(auto)]
 
-ghost use Rattle.std.specs.Prelude.{◌<◌, ◌≤◌, ◌-◌, length};
+ghost use Rattle.std.specs.Prelude.{◌<◌, ◌≤◌, length};
 
 use crate::buffers::slice;
 use words::nth;
@@ -12,49 +12,55 @@ pub mod hand;
 pub mod heads;
 pub mod telling;
 
-// The words of the head that say what was lent, the number k or limit first ..
-pub const K: usize = 1;
-
-pub const OUT: usize = 2;
-
-pub const MAP: usize = 3;
-
-pub const FIRST: usize = 4;
-
-pub const SECOND: usize = 5;
-
-pub const STATE: usize = 7;
-
-pub const OUTPUTS: usize = 8;
-
-// .. and what is expected.
-pub const NUMBER: usize = 9;
-
-pub const LENGTH: usize = 10;
-
-pub const START: usize = 11;
+// The words of the head: what was lent, the number k or limit among it, ..
+#[derive(Clone, Copy, PartialEq, Eq)]
+pub enum Field {
+    Image = 0,
+    K = 1,
+    Out = 2,
+    Map = 3,
+    First = 4,
+    Second = 5,
+    Inputs = 6,
+    State = 7,
+    Outputs = 8,
+    // .. and what is expected.
+    Number = 9,
+    Length = 10,
+    Start = 11,
+    Result = 12,
+    Mapping = 13,
+    Output = 14,
+    StateAfter = 15,
+}
 
 // The bytes of the head.
 pub const HEAD: usize = 64;
 
-// The parts of the data, in their order.
-pub const IMAGE: usize = 0;
+// The parts of the data.
+#[derive(Clone, Copy, PartialEq, Eq)]
+pub enum Part {
+    Image,
+    Inputs,
+    StateBefore,
+    Result,
+    Mapping,
+    Output,
+    StateAfter,
+}
 
-pub const INPUTS: usize = 1;
+// In their order.
+const PARTS: [Part; 7] = [
+    Part::Image,
+    Part::Inputs,
+    Part::StateBefore,
+    Part::Result,
+    Part::Mapping,
+    Part::Output,
+    Part::StateAfter,
+];
 
-pub const STATE_BEFORE: usize = 2;
-
-pub const RESULT: usize = 3;
-
-pub const MAPPING: usize = 4;
-
-pub const OUTPUT: usize = 5;
-
-pub const STATE_AFTER: usize = 6;
-
-const PARTS: usize = 7;
-
-// Word k, 0 past the end.
+// Field k, 0 past the end.
 pub fn word(record: &[u8], k: usize) -> u32 {
     if k < record.len() / 4 {
         return nth(record, k);
@@ -62,32 +68,32 @@ pub fn word(record: &[u8], k: usize) -> u32 {
     0
 }
 
-// Word k as a length.
-pub fn size(record: &[u8], k: usize) -> usize
+// A word of the head as a length.
+pub fn size(record: &[u8], w: Field) -> usize
     ensures { result < 4294967296 }
 {
-    word(record, k) as usize
+    word(record, w as usize) as usize
 }
 
 // The word of the head that has a part's length.
-fn length_word(part: usize) -> usize {
+fn length_word(part: Part) -> Field {
     match part {
-        IMAGE => 0,
-        INPUTS => 6,
-        STATE_BEFORE => 7,
-        RESULT => 12,
-        MAPPING => 13,
-        OUTPUT => 14,
-        _ => 15,
+        Part::Image => Field::Image,
+        Part::Inputs => Field::Inputs,
+        Part::StateBefore => Field::State,
+        Part::Result => Field::Result,
+        Part::Mapping => Field::Mapping,
+        Part::Output => Field::Output,
+        Part::StateAfter => Field::StateAfter,
     }
 }
 
 // A part's bytes: the mapping is counted in words.
-fn part_len(record: &[u8], part: usize) -> usize
+fn part_len(record: &[u8], part: Part) -> usize
     ensures { result < 17179869184 }
 {
     let n = size(record, length_word(part));
-    if part == MAPPING { 4 * n } else { n }
+    if part == Part::Mapping { 4 * n } else { n }
 }
 
 fn padded(n: usize) -> usize
@@ -97,64 +103,50 @@ fn padded(n: usize) -> usize
     (n + 3) / 4 * 4
 }
 
-// Where a part begins, in bytes from the record's start; of PARTS the record's end.
-fn start(record: &[u8], part: usize) -> usize
-    requires { part ≤ 7 }
+// Where so many parts end that follow the head, in bytes from the record's start.
+fn end(record: &[u8], parts: &[Part]) -> usize
+    requires { length parts.now ≤ 7 }
 {
     let mut at = HEAD;
-    let mut k: usize = 0;
-    while k < part {
-        at += padded(part_len(record, k));
-        k += 1;
+    for &part in parts {
+        at += padded(part_len(record, part));
     }
     at
 }
 
 // A part of the data; empty where the record ends before it does.
-pub fn part(record: &[u8], part: usize) -> &[u8]
-    requires { part ≤ 7 }
-{
-    slice(record, start(record, part), part_len(record, part))
+pub fn data(record: &[u8], part: Part) -> &[u8] {
+    slice(
+        record,
+        end(record, &PARTS[..part as usize]),
+        part_len(record, part),
+    )
 }
 
 // What is lent at most.
 fn is_in_bounds(record: &[u8]) -> bool {
-    (size(record, OUT) <= 16500)
-        & (size(record, MAP) <= 512)
-        & (size(record, OUTPUTS) <= 64)
-        & (size(record, STATE) <= 512)
-        & (size(record, FIRST) <= 16384)
-        & (size(record, SECOND) <= 16384)
+    (size(record, Field::Out) <= 16500)
+        & (size(record, Field::Map) <= 512)
+        & (size(record, Field::Outputs) <= 64)
+        & (size(record, Field::State) <= 512)
+        & (size(record, Field::First) <= 16384)
+        & (size(record, Field::Second) <= 16384)
 }
 
-// The bytes of the record that a file's rest begins with, 0 where it is not whole or out of bounds.
-fn first_size(rest: &[u8]) -> usize
-    ensures { result ≤ length rest.now }
-{
-    let size = start(rest, PARTS);
-    if rest.len() < size {
-        return 0;
+// The record that a file's rest begins with, and what follows it; none where it is not whole or out of bounds.
+pub fn first(rest: &[u8]) -> Option<(&[u8], &[u8])> {
+    if is_in_bounds(rest) {
+        rest.split_at_checked(end(rest, &PARTS))
+    } else {
+        None
     }
-    if is_in_bounds(rest) { size } else { 0 }
-}
-
-// The same from `at` on.
-pub fn size_at(file: &[u8], at: usize) -> usize
-    ensures { result ≤ length file.now - at }
-{
-    if file.len() <= at {
-        return 0;
-    }
-    first_size(&file[at..])
 }
 
 // The part that has the state afterwards: all of it where evaluation accepts, else as it was.
-pub fn state_part(record: &[u8]) -> usize
-    ensures { result ≤ 7 }
-{
-    if size(record, 15) == 0 {
-        STATE_BEFORE
+pub fn state_part(record: &[u8]) -> Part {
+    if size(record, Field::StateAfter) == 0 {
+        Part::StateBefore
     } else {
-        STATE_AFTER
+        Part::StateAfter
     }
 }

@@ -22,10 +22,8 @@ pub fn print_number<W: Write>(out: &mut W, text: &[u8], n: u64) -> io::Result<()
 
 // The words of an image, a space before each.
 fn print_words<W: Write>(out: &mut W, image: &[u8]) -> io::Result<()> {
-    let mut i: usize = 0;
-    while i < image.len() / 4 {
+    for i in 0..image.len() / 4 {
         print_number(out, b" ", nth(image, i) as u64)?;
-        i += 1;
     }
     Ok(())
 }

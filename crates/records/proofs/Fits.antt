@@ -7,13 +7,13 @@ use Prim.Native.Nat.{ℕ, ◌+◌, ◌-◌, ◌*◌, ◌/◌, ◌%◌, ◌^◌, 
 use native.Mathlib.Omega.{arith}
 use native.Mathlib.Nat.{zero-mul, add-zero}
 use lib.ListN.{get_or}
-use lib.Dec.{eqb, leb, ltb}
+use lib.Dec.{ltb}
 use lib.Pow.{pow_mono}
 use borrow.Author.Tests.{lt-ltb, le-ltb, lt-leb, le-leb, eq-eqb, ne_eqb, not-true, not-false}
+use Rattle.std.specs.Prelude.{Some, None}
 use Rattle.laws.proofs.Bools.{and_right}
 use Rattle.kinds.specs.Kinds.{kind_of}
 use Rattle.kinds.specs.declared.Kind.{Kind}
-use Rattle.kinds.specs.declared.Kind.TheVariants.{And2, And3, Buf, Dff, Lut, Maj, Mux, Xor2, Xor3}
 use Rattle.model.specs.Gate.{fits_code, fits_kind, fits_table}
 use Rattle.model.specs.Image.{header_ok, code_at, count_at, size_at, table_at, sound_at}
 use Rattle.shape.proofs.Shaped.{lut_small}
@@ -29,34 +29,6 @@ code_fits code n k e t q = ap (λ b. ltb code 15 && b) (q ∙ ap (λ (x : Kind).
 pub header_fits : (h : ℕ) (t : Bool) → t ≡ fits_code (h % 256) (h / 256) → (ltb h 16777216 && t) ≡ header_ok h
 unfolding header_ok
 header_fits h t e = ap (λ b. ltb h 16777216 && b) e
-
-module _ (k : Kind) (n : ℕ) where
-  pub two_and : k ≡ And2 → eqb n 2 ≡ fits_kind k n
-  two_and e = rw e
-
-  pub two_xor : k ≡ Xor2 → eqb n 2 ≡ fits_kind k n
-  two_xor e = rw e
-
-  pub three_and : k ≡ And3 → eqb n 3 ≡ fits_kind k n
-  three_and e = rw e
-
-  pub three_xor : k ≡ Xor3 → eqb n 3 ≡ fits_kind k n
-  three_xor e = rw e
-
-  pub three_maj : k ≡ Maj → eqb n 3 ≡ fits_kind k n
-  three_maj e = rw e
-
-  pub three_mux : k ≡ Mux → eqb n 3 ≡ fits_kind k n
-  three_mux e = rw e
-
-  pub one_buf : k ≡ Buf → eqb n 1 ≡ fits_kind k n
-  one_buf e = rw e
-
-  pub three_dff : k ≡ Dff → eqb n 3 ≡ fits_kind k n
-  three_dff e = rw e
-
-  pub six_lut : k ≡ Lut → leb n 6 ≡ fits_kind k n
-  six_lut e = rw e
 
 -- ---- a Lut's table in two words, by the number of inputs
 
@@ -119,39 +91,39 @@ lut_count_is h e q = lut_small (h % 256) (h / 256) (and_right (ltb h 16777216) (
 
 -- ---- `fit_at`
 
-fit_no : (ws : List ℕ) (at lim : ℕ) → sound_at ws at ≡ false → 0 ≡ fit_at ws at lim
+fit_no : (ws : List ℕ) (at lim : ℕ) → sound_at ws at ≡ false → None ≡ fit_at ws at lim
 unfolding fit_at
 fit_no ws at lim k = simp k
 
-fit_long : (ws : List ℕ) (at lim : ℕ) → lim < at + size_at ws at → 0 ≡ fit_at ws at lim
+fit_long : (ws : List ℕ) (at lim : ℕ) → lim < at + size_at ws at → None ≡ fit_at ws at lim
 unfolding fit_at
 fit_long ws at lim k = simp (lt-leb (at + size_at ws at) lim k, and-false)
 
-pub fit_past : (ws : List ℕ) (at lim : ℕ) → lim ≤ at → 0 ≡ fit_at ws at lim
+pub fit_past : (ws : List ℕ) (at lim : ℕ) → lim ≤ at → None ≡ fit_at ws at lim
 fit_past ws at lim k = fit_long ws at lim (omega (arith, size_pos ws at))
 
-fit_yes : (ws : List ℕ) (at lim : ℕ) → sound_at ws at ≡ true → at + size_at ws at ≤ lim → size_at ws at ≡ fit_at ws at lim
+fit_yes : (ws : List ℕ) (at lim : ℕ) → sound_at ws at ≡ true → at + size_at ws at ≤ lim → Some (size_at ws at) ≡ fit_at ws at lim
 unfolding fit_at
 fit_yes ws at lim k l = simp (k, le-leb (at + size_at ws at) lim l)
 
 -- the answers of `fit_at`, one law for each return, its premises the tests and the calls' promises as the code meets them
 module _ (ws : List ℕ) (at lim h : ℕ) (e : h ≡ get_or ws at 0) (t : Bool) (q : t ≡ header_ok h) where
-  pub fit_header : not t ≡ true → 0 ≡ fit_at ws at lim
+  pub fit_header : not t ≡ true → None ≡ fit_at ws at lim
   fit_header k = fit_no ws at lim (unsound ws at h e (sym q ∙ not-true t k))
 
   module _ (k : not t ≡ false) (a : at < lim) where
     good : header_ok h ≡ true
     good = sym q ∙ not-false t k
 
-    pub fit_plain_long : h % 256 ≢ 14 → lim - at ≤ h / 256 → 0 ≡ fit_at ws at lim
+    pub fit_plain_long : h % 256 ≢ 14 → lim - at ≤ h / 256 → None ≡ fit_at ws at lim
     fit_plain_long n l = fit_long ws at lim (omega (arith, size_plain ws at h e n))
 
-    pub fit_plain : h % 256 ≢ 14 → h / 256 < lim - at → h / 256 + 1 ≡ fit_at ws at lim
+    pub fit_plain : h % 256 ≢ 14 → h / 256 < lim - at → Some (h / 256 + 1) ≡ fit_at ws at lim
     fit_plain n l =
-        sym (size_plain ws at h e n) ∙ fit_yes ws at lim (sound_plain ws at h e n good) (omega (arith, size_plain ws at h e n))
+        ap Some (sym (size_plain ws at h e n)) ∙ fit_yes ws at lim (sound_plain ws at h e n good) (omega (arith, size_plain ws at h e n))
 
     module _ (w : h % 256 ≡ 14) where
-      pub fit_lut_long : lim - at ≤ h / 256 + 2 → 0 ≡ fit_at ws at lim
+      pub fit_lut_long : lim - at ≤ h / 256 + 2 → None ≡ fit_at ws at lim
       fit_lut_long l = fit_long ws at lim (omega (arith, size_lut ws at h e w))
 
       pub lut_count : h / 256 ≤ 6
@@ -159,12 +131,12 @@ module _ (ws : List ℕ) (at lim h : ℕ) (e : h ≡ get_or ws at 0) (t : Bool) 
 
       module _ (l : h / 256 + 2 < lim - at) (lo hi : ℕ) (x : lo ≡ get_or ws (at + 1 + h / 256) 0) (y : hi ≡ get_or ws (at + 2 + h / 256) 0)
           (u : Bool) (z : u ≡ fits_table 14 (h / 256) (lo + hi * 4294967296)) where
-        pub fit_lut : u ≡ true → h / 256 + 3 ≡ fit_at ws at lim
+        pub fit_lut : u ≡ true → Some (h / 256 + 3) ≡ fit_at ws at lim
         fit_lut b =
-            sym (size_lut ws at h e w)
+            ap Some (sym (size_lut ws at h e w))
             ∙ fit_yes ws at lim (sound_lut ws at h e lo hi w x y good ∙ sym z ∙ b) (omega (arith, size_lut ws at h e w))
 
-        pub fit_table : u ≡ false → 0 ≡ fit_at ws at lim
+        pub fit_table : u ≡ false → None ≡ fit_at ws at lim
         fit_table b = fit_no ws at lim (sound_lut ws at h e lo hi w x y good ∙ sym z ∙ b)
 
 pub ruleset fits = (fit_past, fit_header, fit_plain_long, fit_plain, fit_lut_long, lut_count, fit_lut, fit_table)

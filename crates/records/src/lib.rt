@@ -8,36 +8,20 @@ ghost use Rattle.records.specs.Layouts.{size_of, fit_at, laid_from};
 
 use kinds::Kind;
 
-// Broken, or sound with so many gate inputs in all.
-#[derive(Clone, Copy)]
-pub enum Laid {
-    Broken,
-    Inputs(usize),
-}
-
 // Whether a kind has n inputs.
-fn fits_kind(k: Kind, n: u32) -> bool
+pub fn fits_kind(k: Kind, n: u32) -> bool
     ensures { result ≡ fits_kind k n }
 {
     match k {
-        Kind::And2 => n == 2,
-        Kind::Xor2 => n == 2,
-        Kind::And3 => n == 3,
-        Kind::Xor3 => n == 3,
-        Kind::Maj => n == 3,
-        Kind::Mux => n == 3,
-        Kind::AndN => true,
-        Kind::OrN => true,
-        Kind::NandN => true,
-        Kind::NorN => true,
-        Kind::XorN => true,
-        Kind::XnorN => true,
         Kind::Buf => n == 1,
-        Kind::Dff => n == 3,
+        Kind::And2 | Kind::Xor2 => n == 2,
+        Kind::And3 | Kind::Xor3 | Kind::Maj | Kind::Mux | Kind::Dff => n == 3,
         Kind::Lut => n <= 6,
+        Kind::AndN | Kind::OrN | Kind::NandN | Kind::NorN | Kind::XorN | Kind::XnorN => true,
     }
 }
 
+#[tactic(auto, using(crate::proofs::Fits::code_fits))]
 fn fits_code(code: u32, n: u32) -> bool
     ensures { result ≡ fits_code code n }
 {
@@ -45,6 +29,7 @@ fn fits_code(code: u32, n: u32) -> bool
 }
 
 // A header: code + 256 x input count, its top 8 bits zero.
+#[tactic(auto, using(crate::proofs::Fits::header_fits))]
 fn header_ok(h: u32) -> bool
     ensures { result ≡ header_ok h }
 {
@@ -80,70 +65,62 @@ pub fn size_of(h: u32) -> usize
     if h % 256 == 14 { n + 3 } else { n + 1 }
 }
 
-// The words of the record at `at`, if it is sound and ends at `lim` or before; else 0.
-fn fit_at(body: &[u8], at: usize, lim: usize) -> usize
+// The words of the record at `at`, if it is sound and ends at `lim` or before.
+fn fit_at(body: &[u8], at: usize, lim: usize) -> Option<usize>
     requires { lim ≤ length body.now / 4 }
     ensures { result ≡ fit_at (words body.now) at lim }
 {
     if lim <= at {
-        return 0;
+        return None;
     }
     let h = words::nth(body, at);
     if !header_ok(h) {
-        return 0;
+        return None;
     }
     let n = (h / 256) as usize;
     if h % 256 != 14 {
         if lim - at <= n {
-            return 0;
+            return None;
         }
-        return n + 1;
+        return Some(n + 1);
     }
     if lim - at <= n + 2 {
-        return 0;
+        return None;
     }
     let lo = words::nth(body, at + 1 + n);
     let hi = words::nth(body, at + 2 + n);
     if table_ok(h / 256, lo, hi) {
-        return n + 3;
+        return Some(n + 3);
     }
-    0
+    None
 }
 
-// The layout of `nodes` records from the front of the body, which have to end at the word `lim`.
-pub fn layout(body: &[u8], nodes: u32, lim: usize) -> Laid
+// The gate inputs of `nodes` records from the front of the body, if each is sound and they end at the word `lim`.
+// stays: `lim` is no length of the body: every other walk reads it whole, by the same places, and a cut part would be one more buffer.
+#[tactic(auto, using(crate::proofs::Layouts::layouts))]
+pub fn layout(body: &[u8], nodes: u32, lim: usize) -> Option<usize>
     requires { lim ≤ length body.now / 4 }
     ensures { result ≡ laid_from nodes (words body.now) 0 0 lim }
 {
-    let mut left = nodes;
     let mut at: usize = 0;
     let mut ins: usize = 0;
-    while 0 < left {
-        let size = fit_at(body, at, lim);
-        if size == 0 {
-            return Laid::Broken;
-        }
+    for _v in 0..nodes {
+        let size = fit_at(body, at, lim)?;
         ins += (words::nth(body, at) / 256) as usize;
         at += size;
-        left -= 1;
     }
-    if at == lim {
-        Laid::Inputs(ins)
-    } else {
-        Laid::Broken
-    }
+    if at == lim { Some(ins) } else { None }
 }
 
 // The word where record k begins.
+#[tactic(auto, using(crate::proofs::Layouts::walks))]
 pub fn skip(body: &[u8], k: u32) -> usize
     requires { end_from k (words body.now) 0 ≤ length body.now / 4 }
     ensures { result ≡ end_from k (words body.now) 0 }
 {
-    let mut v: u32 = 0;
     let mut at: usize = 0;
-    while v < k {
+    for _v in 0..k {
         at += size_of(words::nth(body, at));
-        v += 1;
     }
     at
 }

@@ -7,7 +7,7 @@ use native.Mathlib.Omega.{arith}
 use native.Mathlib.Numerals.{add-one}
 use native.Mathlib.Decide.{ℕ_discrete}
 use mir.Val.{Fits}
-use mir.Syntax.{w32, w64}
+use mir.Syntax.{w32}
 use lib.ListN.{length, get_or, set, length-set, replicate, length-replicate}
 use lib.Seq.{get_or-set_same, get_or-set_other}
 use Rattle.model.specs.Signal.{from_var}
@@ -15,9 +15,11 @@ use Rattle.model.specs.Network.{fill, translation}
 use Rattle.tables.specs.Layout.{cell, store, tr_base, order_base}
 use Rattle.tables.proofs.Places.{length_store, cell_store, cell_store_other}
 use Rattle.shape.proofs.Remap.{translation_removed}
-use Rattle.remap.specs.Tables.{order_from, cleared_table}
+use Rattle.translation.specs.Tables.{cleared_table}
+use Rattle.translation.proofs.Cleared.{length_cleared, cell_cleared, cell_cleared_other}
+use Rattle.remap.specs.Tables.{order_from}
 use Rattle.remap.specs.Remapping.{Numbering, Numbers, Numbered}
-use Rattle.remap.proofs.Tabled.{length_cleared, cell_cleared, cell_cleared_other, length_order_from, order_from_same, order_from_zero, order_from_last}
+use Rattle.remap.proofs.Tabled.{length_order_from, order_from_same, order_from_zero, order_from_last}
 
 fill_snoc : (a t : List ℕ) (b x : ℕ) → fill t b (a ++ (x ∷ [])) ≡ set (fill t b a) x (from_var (b + length a))
 fill_snoc [] t b x = ap (λ (y : ℕ). set t x (from_var y)) (let z : b ≡ b + 0 = omega arith in z)
@@ -72,9 +74,6 @@ module _ (l z : List ℕ) (n m : ℕ) (C : Numbering l n m) (q : z ≡ cleared_t
 
     pub number_word : k < m → Fits w32 k
     number_word h = record { fits = omega (arith, C.few) }
-
-    pub number_count : k < m → Fits w64 (k + 1)
-    number_count h = record { fits = omega (arith, C.few) }
 
     module _ (v : ℕ) (h : k < m) (w : v ≡ cell e order_base k) where
       v_is : v ≡ cell z order_base k

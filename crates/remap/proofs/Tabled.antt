@@ -1,12 +1,9 @@
 -- Lists kept in the tables behind a network, and a held network word by word.
 use mathlib.Core.Path.{◌≡◌, refl, ap, ◌∙◌}
-use mathlib.Core.Logic.{◌≢◌}
 use mathlib.Core.Bool.{Bool, true, false, cond}
 use Prim.Native.Nat.{ℕ, zero, suc, ◌+◌, ◌<◌, ◌≤◌, zero-le}
-use native.Mathlib.Nat.{not-suc-le-zero, le_refl, le_antisymm}
+use native.Mathlib.Nat.{le_refl}
 use native.Mathlib.Omega.{arith}
-use native.Mathlib.Decide.{ℕ_discrete}
-use native.Mathlib.Numerals.{add-one}
 use mathlib.Core.List.{List, [], ◌∷◌, ◌++◌}
 use lib.ListN.{length}
 use lib.Dec.{eqb}
@@ -21,49 +18,11 @@ use Rattle.model.proofs.Names.{named_names}
 use Rattle.shape.specs.Forms.{Inside, OutsInside}
 use Rattle.shape.proofs.Sums.{sum_mono}
 use Rattle.shape.proofs.Wires.{names_below, vars_length, wired_inside, wired_outs_inside}
-use Rattle.tables.specs.Layout.{kind_at, first_at, count_at, input_at, ins_at, output_at, gate_at, outputs_of, net_of, cell, store, stack_base, order_base}
+use Rattle.tables.specs.Layout.{kind_at, first_at, count_at, input_at, ins_at, output_at, gate_at, outputs_of, net_of, cell, stack_base, order_base}
 use Rattle.tables.specs.Holding.{network_of, Held}
 use Rattle.tables.specs.declared.counts.Counts.{Counts}
-use Rattle.tables.proofs.Places.{length_store, cell_store, cell_store_other}
 use Rattle.tables.proofs.Holding.{size_network, gate_network, nodes_few, outs_few, counts_few, output_named, input_named}
-use Rattle.remap.specs.Tables.{stack_of, order_from, cleared_table, ins_from, Sound}
-
--- ---- a cleared table
-
-pub length_cleared : (l : List ℕ) (b k : ℕ) → length (cleared_table l b k) ≡ length l
-unfolding cleared_table
-length_cleared l b zero = refl
-length_cleared l b (suc k) = length_store (cleared_table l b k) b k 0 ∙ length_cleared l b k
-
-pub cell_cleared : (l : List ℕ) (b k i : ℕ) → b + k ≤ length l → i < k → cell (cleared_table l b k) b i ≡ 0
-unfolding cleared_table
-cell_cleared l b zero i h p = absurd (not-suc-le-zero p)
-cell_cleared l b (suc k) i h p = elim (ℕ_discrete i k) [
-  | yes e ↦ rw e (cell_store (cleared_table l b k) b k 0 (omega (arith, length_cleared l b k)))
-  | no e ↦ cell_store_other (cleared_table l b k) b k 0 b i (omega arith) ∙ cell_cleared l b k i (omega arith) (omega arith)
-]
-
-pub cell_cleared_other : (l : List ℕ) (b k c j : ℕ) → ((i : ℕ) → i < k → c + j ≢ b + i) → cell (cleared_table l b k) c j ≡ cell l c j
-unfolding cleared_table
-cell_cleared_other l b zero c j h = refl
-cell_cleared_other l b (suc k) c j h = cell_store_other (cleared_table l b k) b k 0 c j (h k (le_refl _)) ∙ cell_cleared_other l b k c j (λ i p. h i (omega arith))
-
--- as the code meets it
-pub clear_none : (l : List ℕ) (b : ℕ) → l ≡ cleared_table l b 0
-unfolding cleared_table
-clear_none l b = refl
-
-module _ (l : List ℕ) (b n : ℕ) (e : List ℕ) (k : ℕ) (I : (k ≤ n) × (length e ≡ length l) × (e ≡ cleared_table l b k)) where
-  pub clear_done : n ≤ k → e ≡ cleared_table l b n
-  clear_done h = I.2 ∙ ap (cleared_table l b) (le_antisymm I.0 h)
-
-  module _ (h : k < n) where
-    pub clear_room : b + n ≤ length l → b + k < length e
-    clear_room r = rw I.1 (omega arith)
-
-    pub clear_next : (e' : List ℕ) → length e' ≡ length e → e' ≡ store e b k 0 → (k + 1 ≤ n) × (length e' ≡ length l) × (e' ≡ cleared_table l b (k + 1))
-    unfolding cleared_table
-    clear_next e' s w = (omega arith, s ∙ I.1, rw add-one (w ∙ ap (λ (x : List ℕ). store x b k 0) I.2))
+use Rattle.remap.specs.Tables.{stack_of, order_from, ins_from, Sound}
 
 -- ---- the stack and the order
 

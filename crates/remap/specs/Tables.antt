@@ -3,7 +3,7 @@ use Rattle.std.specs.Prelude.{ℕ, zero, suc, ◌+◌, ◌<◌, ◌≤◌, List,
 use Rattle.laws.specs.Lists.{tab}
 use Rattle.model.specs.Network.{sum_to}
 use Rattle.shape.specs.Forms.{Below}
-use Rattle.tables.specs.Layout.{net_size, first_at, count_at, input_at, output_at, cell, store, stack_base, order_base}
+use Rattle.tables.specs.Layout.{net_size, first_at, count_at, input_at, output_at, cell, stack_base, order_base}
 use Rattle.tables.specs.Holding.{Held}
 use Rattle.tables.specs.declared.counts.Counts.{Counts}
 
@@ -16,11 +16,6 @@ stack_of l (suc k) = cell l stack_base k ∷ stack_of l k
 unfoldable pub order_from : List ℕ → ℕ → ℕ → List ℕ
 order_from l at zero = []
 order_from l at (suc k) = cell l order_base at ∷ order_from l (suc at) k
-
--- l with the first k words of the table at b zero
-unfoldable pub cleared_table : List ℕ → ℕ → ℕ → List ℕ
-cleared_table l b zero = l
-cleared_table l b (suc k) = store (cleared_table l b k) b k 0
 
 -- k input words from f on
 abbrev pub ins_from : List ℕ → ℕ → ℕ → List ℕ

@@ -2,41 +2,28 @@
 // mapping in the tables behind its network.
 #![tactic(auto)]
 
-ghost use Rattle.std.specs.Prelude.{◌≡◌, ◌+◌, ◌<◌, ◌≤◌, length};
-ghost use Rattle.model.specs.Signal.{remap_order};
-ghost use Rattle.tables.specs.Layout.{span, cell, tr_base};
-ghost use Rattle.tables.specs.Building.{put_inputs, put_outputs};
-ghost use Rattle.remap.specs.Remapping.{inputs_by, outputs_by, Copying, Placing, Put, Mapping, Mapped, OutMapping, Numbering, Numbered, Orders, Remapped};
+ghost use Rattle.std.specs.Prelude.{◌≡◌};
+ghost use Rattle.tables.specs.Building.{put_inputs};
+ghost use Rattle.translation.specs.Tables.{tr_of};
+ghost use Rattle.remap.specs.Remapping.{inputs_by, Copying, Placing, Put, Mapping, Mapped, Numbering, Numbered, Orders, Remapped};
 
-use crate::nodes::clear_table;
 use signal::Signal;
 use tables::counts::Counts;
 use tables::layout::{
-    count_at, first_at, high_at, input_at, kind_at, low_at, output_at, put_gate, put_input,
-    put_output, put_table,
+    count_at, first_at, high_at, input_at, kind_at, low_at, put_gate, put_input, put_table,
 };
 use tables::scratch::{ORDER, TR, number, put_word};
+use translation::{clear_table, remap_outputs, translate};
 
 pub mod nodes;
 
-// A signal through the mapping.
-pub fn translate(to: &[u32], s: u32) -> u32
-    requires { span ≤ length to.now }
-    ensures { result ≡ remap_order (cell to.now tr_base) s }
-{
-    let start = TR;
-    Signal { a: s }.remap_order(&to[start..]).a
-}
-
 fn copy_inputs(from: &[u32], to: &mut [u32], f: usize, at: usize, n: usize)
     requires { Copying from.now to.old f at n }
-    ensures { to.new ≡ put_inputs to.old at (inputs_by from.now (cell to.old tr_base) f) n }
+    ensures { to.new ≡ put_inputs to.old at (inputs_by from.now (tr_of to.old) f) n }
 {
-    let mut j: usize = 0;
-    while j < n {
+    for j in 0..n {
         let s = translate(to, input_at(from, f + j));
         put_input(to, at + j, s);
-        j += 1;
     }
 }
 
@@ -58,23 +45,9 @@ fn remap_nodes(from: &[u32], to: &mut [u32], c: Counts, m: usize)
     ensures { Mapped from.now to.old to.new m }
 {
     let mut at: usize = 0;
-    let mut k: usize = 0;
-    while k < m {
+    for k in 0..m {
         let v = number(to, ORDER, k);
         at = remap_gate(from, to, c, v, k, at);
-        k += 1;
-    }
-}
-
-fn remap_outputs(from: &[u32], to: &mut [u32], o: usize)
-    requires { OutMapping from.now to.old o }
-    ensures { to.new ≡ put_outputs to.old (outputs_by from.now (cell to.old tr_base)) o }
-{
-    let mut j: usize = 0;
-    while j < o {
-        let s = translate(to, output_at(from, j));
-        put_output(to, j, s);
-        j += 1;
     }
 }
 
@@ -84,11 +57,9 @@ fn number_nodes(to: &mut [u32], n: usize, m: usize)
     ensures { Numbered to.old to.new n m }
 {
     clear_table(to, TR, n);
-    let mut k: usize = 0;
-    while k < m {
+    for k in 0..m {
         let v = number(to, ORDER, k);
         put_word(to, TR, v, Signal::from_var(k as u32).a);
-        k += 1;
     }
 }
 

@@ -1,14 +1,16 @@
 -- The turns of the search over the nodes, with premises as the code meets them.
 use Prim.Native.Nat.{suc, zero, ℕ, ◌+◌, ◌-◌, ◌<◌, ◌≤◌}
 use mathlib.Core.Path.{refl, sym, ◌≡◌}
-use mathlib.Core.Bool.{Bool, false, not, true, ◌&&◌, ◌||◌}
+use mathlib.Core.Bool.{Bool, false, true, ◌&&◌, ◌||◌}
 use mathlib.Core.List.{List, [], ◌++◌, ◌∷◌}
 use native.Mathlib.Omega.{arith}
 use native.Mathlib.Nat.{le_antisymm}
 use native.Mathlib.Numerals.{add-one}
-use borrow.Author.Tests.{not-false, not-true}
 use Rattle.model.specs.Gate.{Gate}
 use Rattle.model.specs.Sharing.{any_repeats, repeats, takes}
+use Rattle.std.specs.Prelude.{Ok, Err}
+use Rattle.refusals.specs.Numbers.{numbered, unless}
+use Rattle.refusals.specs.declared.Refusal.TheVariants.{Repeated}
 use Rattle.repeats.specs.Reading.{Node, Nodes, repeats_refusal}
 use Rattle.tables.specs.Holding.{Held}
 use Rattle.tables.specs.Layout.{gate_at, ins_at, nodes_of}
@@ -58,12 +60,12 @@ module _ (l : List ℕ) (n v : ℕ) (c : Clear l n v) where
   clear_end h = let e : v ≡ n = le_antisymm c.le h in sym (rw e at c.none)
 
   module _ (h : v < n) (t : Bool) (et : t ≡ takes And (gate_at l v)) where
-    pub clear_skip : not t ≡ true → Clear l n (v + 1)
-    clear_skip e = record { none = rw (add-one, any_next l v, c.none, ← et, not-true t e); le = omega arith }
+    pub clear_skip : t ≡ false → Clear l n (v + 1)
+    clear_skip e = record { none = rw (add-one, any_next l v, c.none, ← et, e); le = omega arith }
 
-    module _ (s : not t ≡ false) (r : Bool) (er : r ≡ repeats (ins_at l v)) where
+    module _ (s : t ≡ true) (r : Bool) (er : r ≡ repeats (ins_at l v)) where
       here : takes And (gate_at l v) && repeats (ins_at l v) ≡ r
-      here = rw (← et, not-false t s, er)
+      here = rw (← et, s, er)
 
       pub clear_next : r ≡ false → Clear l n (v + 1)
       clear_next e = record { none = rw (add-one, any_next l v, c.none, here) e; le = omega arith }
@@ -76,13 +78,13 @@ module _ (l : List ℕ) (n v : ℕ) (c : Clear l n v) where
 
 pub ruleset searched = (node_at, clear_start, clear_end, clear_skip, clear_next, met_here)
 
--- ---- the number
+-- ---- the refusal
 
 module _ (gs : List Gate) (t : Bool) (e : t ≡ any_repeats gs) where
-  pub number_nine : t ≡ true → 9 ≡ repeats_refusal gs
+  pub repeats_nine : t ≡ true → numbered {A = Unit} (Err Repeated) ≡ unless (repeats_refusal gs) tt
   unfolding repeats_refusal
-  number_nine q = rw (← e, q)
+  repeats_nine q = rw (← e, q)
 
-  pub number_none : t ≡ false → 0 ≡ repeats_refusal gs
+  pub repeats_none : t ≡ false → numbered {A = Unit} (Ok tt) ≡ unless (repeats_refusal gs) tt
   unfolding repeats_refusal
-  number_none q = rw (← e, q)
+  repeats_none q = rw (← e, q)

@@ -14,10 +14,7 @@ fn keep_one(area: &mut [u32], k: usize, s: u32, a: u32, b: u32) -> usize
     requires { (k < 2048) × (area_size ≤ length area.old) }
     ensures { (result ≡ length (kept_one a b s)) × (area.new ≡ put_list area.old k (kept_one a b s)) }
 {
-    if s == a {
-        return 0;
-    }
-    if s == b {
+    if s == a || s == b {
         return 0;
     }
     put_sig(area, k, s);
@@ -32,11 +29,9 @@ fn take_out(area: &mut [u32], g: usize, i: usize, a: u32, b: u32) -> usize
     let f = start_at(area, i);
     let n = left_at(area, i);
     let mut w: usize = 0;
-    let mut j: usize = 0;
-    while j < n {
+    for j in 0..n {
         let s = sig_at(area, f + j);
         w += keep_one(area, f + w, s, a, b);
-        j += 1;
     }
     w
 }

@@ -14,10 +14,8 @@ fn swap_all(area: &mut [u32], g: usize, a: u32, b: u32, z: u32)
     requires { Laid area.old g }
     ensures { area.new ≡ replaced_all area.old g a b z }
 {
-    let mut i: usize = 0;
-    while i < g {
+    for i in 0..g {
         replace_in(area, g, i, a, b, z);
-        i += 1;
     }
 }
 

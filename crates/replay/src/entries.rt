@@ -1,6 +1,4 @@
-// The entries: each has its code, its file's name, its arm or test here, and its line in the file `stdout`, in the order of the codes.
-ghost use Rattle.std.specs.Prelude.{◌≤◌};
-
+// The entries: each has its code, its names and its arm here, and its line in the file `stdout`, in the order of the codes.
 use answers::Answer;
 use evaluation::evaluate;
 use lanternlean::read::read;
@@ -10,96 +8,77 @@ use network::cleaning::cleanup;
 use network::deduplicate::dedup;
 use network::sort::sort;
 use recorded::buffers::slice;
-use recorded::{IMAGE, INPUTS, K, part, word};
+use recorded::{Field, Part, data, word};
+use refusals::Refusal;
 use sharing::factor::factor;
 use sharing::flattening::flatten;
 use sharing::share::share;
 
-// The codes of docs/RECORDED.md, below CODES.
-const READ: u32 = 0;
+// By the codes of docs/RECORDED.md.
+#[derive(Clone, Copy, PartialEq, Eq)]
+pub enum Entry {
+    Read = 0,
+    Canonical = 1,
+    Dedup = 2,
+    Cleanup = 3,
+    Sort = 4,
+    Flatten = 5,
+    Factor = 6,
+    Share = 7,
+    Evaluate = 8,
+    Record = 9,
+}
 
-const CANONICAL: u32 = 1;
+// In the order of their codes.
+pub const ENTRIES: [Entry; 10] = [
+    Entry::Read,
+    Entry::Canonical,
+    Entry::Dedup,
+    Entry::Cleanup,
+    Entry::Sort,
+    Entry::Flatten,
+    Entry::Factor,
+    Entry::Share,
+    Entry::Evaluate,
+    Entry::Record,
+];
 
-const DEDUP: u32 = 2;
-
-const CLEANUP: u32 = 3;
-
-const SORT: u32 = 4;
-
-const FLATTEN: u32 = 5;
-
-const FACTOR: u32 = 6;
-
-const SHARE: u32 = 7;
-
-pub const EVALUATE: u32 = 8;
-
-const RECORD: u32 = 9;
-
-pub const CODES: u32 = 10;
-
-// The length of an entry's name; its file is called so and `.bin`.
-fn name_len(entry: u32) -> usize
-    ensures { result ≤ 9 }
-{
-    match entry {
-        READ => 4,
-        SORT => 4,
-        DEDUP => 5,
-        SHARE => 5,
-        FACTOR => 6,
-        RECORD => 6,
-        CLEANUP => 7,
-        FLATTEN => 7,
-        EVALUATE => 8,
-        _ => 9,
+impl Entry {
+    pub fn name(self) -> &'static [u8] {
+        match self {
+            Entry::Read => b"read",
+            Entry::Canonical => b"canonical",
+            Entry::Dedup => b"dedup",
+            Entry::Cleanup => b"cleanup",
+            Entry::Sort => b"sort",
+            Entry::Flatten => b"flatten",
+            Entry::Factor => b"factor",
+            Entry::Share => b"share",
+            Entry::Evaluate => b"evaluate",
+            Entry::Record => b"record",
+        }
     }
-}
 
-// An entry's name and `more` bytes behind it: 4 for its file's.
-pub fn name(names: &[u8], entry: u32, more: usize) -> &[u8]
-    requires { more ≤ 4 }
-{
-    slice(names, 16 * entry as usize, name_len(entry) + more)
-}
-
-// Reads, or runs an entry of network.rs.
-fn run_network(
-    entry: u32,
-    image: &[u8],
-    out: &mut [u8],
-    map: &mut [u32],
-    a: &mut [u32],
-    b: &mut [u32],
-) -> Answer {
-    match entry {
-        CANONICAL => canonical(image, out, map, a, b),
-        DEDUP => dedup(image, out, map, a, b),
-        CLEANUP => cleanup(image, out, map, a, b),
-        SORT => sort(image, out, map, a, b),
-        _ => read(image, out, a, b),
-    }
-}
-
-// Runs an entry of share_logic.rs.
-fn run_sharing(
-    entry: u32,
-    image: &[u8],
-    limit: u32,
-    out: &mut [u8],
-    a: &mut [u32],
-    b: &mut [u32],
-) -> Answer {
-    match entry {
-        FLATTEN => flatten(image, limit, out, a, b),
-        FACTOR => factor(image, out, a, b),
-        _ => share(image, limit, out, a, b),
+    // The file of its recorded answers.
+    pub fn file(self) -> &'static str {
+        match self {
+            Entry::Read => "read.bin",
+            Entry::Canonical => "canonical.bin",
+            Entry::Dedup => "dedup.bin",
+            Entry::Cleanup => "cleanup.bin",
+            Entry::Sort => "sort.bin",
+            Entry::Flatten => "flatten.bin",
+            Entry::Factor => "factor.bin",
+            Entry::Share => "share.bin",
+            Entry::Evaluate => "evaluate.bin",
+            Entry::Record => "record.bin",
+        }
     }
 }
 
 // Runs an entry on what is lent; `out` takes an image, or the outputs of a cycle.
 pub fn run(
-    entry: u32,
+    entry: Entry,
     recorded: &[u8],
     out: &mut [u8],
     map: &mut [u32],
@@ -107,33 +86,39 @@ pub fn run(
     a: &mut [u32],
     b: &mut [u32],
 ) -> Answer {
-    let image = part(recorded, IMAGE);
-    let k = word(recorded, K);
-    if entry < FLATTEN {
-        return run_network(entry, image, out, map, a, b);
+    let image = data(recorded, Part::Image);
+    let k = word(recorded, Field::K as usize);
+    match entry {
+        Entry::Read => read(image, out, a, b),
+        Entry::Canonical => canonical(image, out, map, a, b),
+        Entry::Dedup => dedup(image, out, map, a, b),
+        Entry::Cleanup => cleanup(image, out, map, a, b),
+        Entry::Sort => sort(image, out, map, a, b),
+        Entry::Flatten => flatten(image, k, out, a, b),
+        Entry::Factor => factor(image, out, a, b),
+        Entry::Share => share(image, k, out, a, b),
+        Entry::Evaluate => evaluate(image, data(recorded, Part::Inputs), state, out, a, b),
+        Entry::Record => run_record(image, k),
     }
-    if entry < EVALUATE {
-        return run_sharing(entry, image, k, out, a, b);
-    }
-    if entry == EVALUATE {
-        return evaluate(image, part(recorded, INPUTS), state, out, a, b);
-    }
-    run_record(image, k)
 }
 
 // The entry without a number: it counts as accepted where the part has the image's bytes from its start on, else as refused.
 fn run_record(image: &[u8], k: u32) -> Answer {
     let part = record(image, k);
     if part == slice(image, record_at(image, k), part.len()) {
-        return Answer::Accepted(part.len());
+        return Ok(part.len());
     }
-    Answer::Refused(1)
+    Err(Refusal::Areas)
 }
 
 // Where record k begins; 0 for the other entries.
-pub fn part_start(entry: u32, recorded: &[u8]) -> usize {
-    if entry == RECORD {
-        return record_at(part(recorded, IMAGE), word(recorded, K));
+pub fn part_start(entry: Entry, recorded: &[u8]) -> usize {
+    if entry == Entry::Record {
+        record_at(
+            data(recorded, Part::Image),
+            word(recorded, Field::K as usize),
+        )
+    } else {
+        0
     }
-    0
 }

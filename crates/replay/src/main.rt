@@ -20,11 +20,8 @@ fn room() -> [u8; 1048576]
 }
 
 fn main(rt: HostRuntime) -> io::Result<()> {
-    // each entry's file, 16 bytes for each, in the order of the codes
-    let names =
-        b"read.bin        canonical.bin   dedup.bin       cleanup.bin     sort.bin        flatten.bin     factor.bin      share.bin       evaluate.bin    record.bin      ";
     let mut file = room();
     let n = read_full(&mut rt.stdin(), &mut file)?;
-    cases::show_all(&mut rt.stdout(), names, &file[..n])?;
-    files::replay_all(&rt, &mut rt.stdout(), &mut rt.stderr(), names, &mut file)
+    cases::show_all(&mut rt.stdout(), &file[..n])?;
+    files::replay_all(&rt, &mut rt.stdout(), &mut rt.stderr(), &mut file)
 }

@@ -1,45 +1,42 @@
 // One record: the entry run on buffers as long as those that were lent, and all that it left compared.
 ghost use Rattle.std.specs.Prelude.{◌≤◌, IfOk};
 
-use crate::entries::{EVALUATE, part_start, run};
+use crate::entries::{Entry, part_start, run};
 use answers::{Answer, length, number};
 use recorded::buffers::{BYTE, WORD, put};
-use recorded::comparing::{expect, has, has_area, has_mapping};
+use recorded::comparing::{What, expect, has, has_area, has_mapping};
 use recorded::telling::{print, print_number};
-use recorded::{comparing, part, size, state_part, word};
+use recorded::{Field, Part, data, size, state_part, word};
 use std::io;
 use std::io::Write;
 
-// How much was lent of a buffer of len elements: word k, which is no more than that in a record within bounds.
-fn lent(record: &[u8], k: usize, len: usize) -> usize
+// How much was lent of a buffer of len elements: a word of the head, which is no more than that in a record within bounds.
+fn lent(record: &[u8], w: Field, len: usize) -> usize
     ensures { result ≤ len }
 {
-    let n = size(record, k);
-    if n < len { n } else { len }
+    size(record, w).min(len)
 }
 
 // The word that says how much was lent of the first buffer, and the part that it has then.
-fn out_word(entry: u32) -> usize {
-    if entry == EVALUATE {
-        recorded::OUTPUTS
+fn out_word(entry: Entry) -> Field {
+    if entry == Entry::Evaluate {
+        Field::Outputs
     } else {
-        recorded::OUT
+        Field::Out
     }
 }
 
-fn out_part(entry: u32) -> usize
-    ensures { result ≤ 7 }
-{
-    if entry == EVALUATE {
-        recorded::OUTPUT
+fn out_part(entry: Entry) -> Part {
+    if entry == Entry::Evaluate {
+        Part::Output
     } else {
-        recorded::RESULT
+        Part::Result
     }
 }
 
 // Runs the entry on the front of each buffer, as much of it as was lent.
 pub fn lend(
-    entry: u32,
+    entry: Entry,
     record: &[u8],
     out: &mut [u8],
     map: &mut [u32],
@@ -48,10 +45,10 @@ pub fn lend(
     b: &mut [u32],
 ) -> Answer {
     let out_len = lent(record, out_word(entry), out.len());
-    let map_len = lent(record, recorded::MAP, map.len());
-    let state_len = lent(record, recorded::STATE, state.len());
-    let a_len = lent(record, recorded::FIRST, a.len());
-    let b_len = lent(record, recorded::SECOND, b.len());
+    let map_len = lent(record, Field::Map, map.len());
+    let state_len = lent(record, Field::State, state.len());
+    let a_len = lent(record, Field::First, a.len());
+    let b_len = lent(record, Field::Second, b.len());
     run(
         entry,
         record,
@@ -63,54 +60,51 @@ pub fn lend(
     )
 }
 
-fn is_answer<W: Write>(err: &mut W, entry: u32, record: &[u8], r: Answer) -> io::Result<bool> {
+fn is_answer<W: Write>(err: &mut W, entry: Entry, record: &[u8], r: Answer) -> io::Result<bool> {
     Ok(
         expect(
             err,
-            comparing::NUMBER,
-            number(r) == word(record, recorded::NUMBER),
-        )? & expect(
-            err,
-            comparing::LENGTH,
-            length(r) == size(record, recorded::LENGTH),
-        )? & expect(
-            err,
-            comparing::START,
-            part_start(entry, record) == size(record, recorded::START),
-        )?,
+            What::Number,
+            number(r) == word(record, Field::Number as usize),
+        )? & expect(err, What::Length, length(r) == size(record, Field::Length))?
+            & expect(
+                err,
+                What::Start,
+                part_start(entry, record) == size(record, Field::Start),
+            )?,
     )
 }
 
 // Whether the entry does what is recorded. Each buffer has more elements than are lent at most, to be found untouched.
-fn is_same<W: Write>(err: &mut W, entry: u32, record: &[u8]) -> io::Result<bool> {
+fn is_same<W: Write>(err: &mut W, entry: Entry, record: &[u8]) -> io::Result<bool> {
     let mut out = [BYTE; 16640];
     let mut map = [WORD; 576];
     let mut state = [BYTE; 640];
     let mut a = [WORD; 16448];
     let mut b = [WORD; 16448];
-    put(part(record, recorded::STATE_BEFORE), &mut state);
+    put(data(record, Part::StateBefore), &mut state);
     let r = lend(
         entry, record, &mut out, &mut map, &mut state, &mut a, &mut b,
     );
     Ok(
         is_answer(err, entry, record, r)?
-            & has(err, comparing::OUT, record, out_part(entry), &out)?
+            & has(err, What::Result, record, out_part(entry), &out)?
             & has_mapping(err, record, &map)?
-            & has(err, comparing::STATE, record, state_part(record), &state)?
-            & has_area(err, comparing::FIRST, record, recorded::FIRST, &a)?
-            & has_area(err, comparing::SECOND, record, recorded::SECOND, &b)?,
+            & has(err, What::State, record, state_part(record), &state)?
+            & has_area(err, What::First, record, Field::First, &a)?
+            & has_area(err, What::Second, record, Field::Second, &b)?,
     )
 }
 
 // Replays a record, number k of its file; answers how many differ, 0 or 1.
-pub fn replay<W: Write>(err: &mut W, record: &[u8], entry: u32, k: u32) -> io::Result<u32>
+pub fn replay<W: Write>(err: &mut W, record: &[u8], entry: Entry, k: u32) -> io::Result<u32>
     ensures { IfOk result (λ n. n ≤ 1) }
 {
     if is_same(err, entry, record)? {
         return Ok(0);
     }
     print_number(err, b"differ in record ", k as u64)?;
-    print_number(err, b" of entry ", entry as u64)?;
+    print_number(err, b" of entry ", entry as u32 as u64)?;
     print(err, b"\n")?;
     Ok(1)
 }

@@ -1,5 +1,5 @@
 -- Laws of the room that a pass has.
-use Prim.Native.Nat.{suc, zero, ℕ, ◌+◌, ◌-◌, ◌/◌, ◌<◌, ◌≤◌}
+use Prim.Native.Nat.{min, suc, zero, ℕ, ◌+◌, ◌-◌, ◌/◌, ◌<◌, ◌≤◌}
 use mathlib.Core.Path.{ap, sym, ◌∙◌, ◌≡◌}
 use mathlib.Core.Bool.{Bool, cond, false, true}
 use mathlib.Core.List.{List, [], ◌++◌, ◌∷◌}
@@ -17,7 +17,7 @@ use Rattle.uses.specs.Loading.{Source}
 use Rattle.shape.proofs.FactoringGrown.{buf_le}
 use Rattle.tables.proofs.Building.{nodes_of_next, nodes_of_none}
 use Rattle.tables.proofs.Holding.{fanin_next, length_ins, length_nodes_of}
-use Rattle.uses.proofs.Walks.{source_few, source_more}
+use Rattle.uses.proofs.Walks.{source_few}
 use Rattle.kinds.specs.declared.Family.{Family}
 
 -- one more node
@@ -64,9 +64,6 @@ module _ (f : Family) (from : List ℕ) (n t v : ℕ) (inv : Summing f from n t 
     pub sum_few : v < 512
     sum_few = source_few from n v S h
 
-    pub sum_more : Fits w64 (v + 1)
-    sum_more = source_more from n v S h
-
     pub sum_one : Fits w64 (t + 1)
     sum_one = record { fits = omega (arith, inv.count, buf_small f from n v S inv.upto) }
 
@@ -83,7 +80,7 @@ module _ (f : Family) (from : List ℕ) (n t v : ℕ) (inv : Summing f from n t 
   pub sum_end : n ≤ v → t ≡ buf_inputs f (nodes_of from n)
   sum_end h = let a = inv.upto in let e : v ≡ n = omega arith in inv.count ∙ ap (λ k. buf_inputs f (nodes_of from k)) e
 
-pub ruleset sums = (sum_start, sum_few, sum_more, sum_one, sum_count, sum_taken, sum_other, sum_end)
+pub ruleset sums = (sum_start, sum_few, sum_one, sum_count, sum_taken, sum_other, sum_end)
 
 -- ---- room_for
 
@@ -91,12 +88,8 @@ module _ (f : Family) (from : List ℕ) (n t : ℕ) (S : Source from n) (et : t 
   pub room_small : t ≤ 2048
   room_small = omega (arith, buf_small f from n n S (le_refl _))
 
-  pub room_nodes : 512 - n < (2048 - t) / 2 → 512 - n ≡ room_of f (nodes_of from n)
+  pub room_min : (r : ℕ) → r ≡ min (512 - n) ((2048 - t) / 2) → r ≡ room_of f (nodes_of from n)
   unfolding room_of
-  room_nodes h = rw (length_nodes_of from n, ← et) (omega arith)
+  room_min r e = rw (length_nodes_of from n, ← et) e
 
-  pub room_pairs : (2048 - t) / 2 ≤ 512 - n → (2048 - t) / 2 ≡ room_of f (nodes_of from n)
-  unfolding room_of
-  room_pairs h = rw (length_nodes_of from n, ← et) (omega arith)
-
-pub ruleset rooms = (room_small, room_nodes, room_pairs)
+pub ruleset rooms = (room_small, room_min)

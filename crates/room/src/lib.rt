@@ -16,15 +16,12 @@ fn buf_inputs(from: &[u32], n: usize, f: Family) -> usize
     ensures { result ≡ buf_inputs f (nodes_of from.now n) }
 {
     let mut t: usize = 0;
-    let mut v: usize = 0;
-    while v < n {
-        if takes(from, f, v) {
-            t += 1;
-            v += 1;
-            continue;
-        }
-        t += count_at(from, v);
-        v += 1;
+    for v in 0..n {
+        t += if takes(from, f, v) {
+            1
+        } else {
+            count_at(from, v)
+        };
     }
     t
 }
@@ -35,10 +32,5 @@ pub fn room_for(from: &[u32], n: usize, f: Family) -> usize
     ensures { result ≡ room_of f (nodes_of from.now n) }
 {
     let t = buf_inputs(from, n, f);
-    let nodes = 512 - n;
-    let pairs = (2048 - t) / 2;
-    if nodes < pairs {
-        return nodes;
-    }
-    pairs
+    (512 - n).min((2048 - t) / 2)
 }

@@ -20,6 +20,7 @@ use Rattle.model.specs.Gate.{Gate}
 use Rattle.model.specs.Network.{same_list, same_gate, find_step, find_gate}
 use Rattle.shape.proofs.DedupPlace.{same_list_eq}
 use Rattle.tables.specs.Layout.{net_size, kind_at, first_at, count_at, input_at, low_at, high_at, ins_at, gate_at, cell}
+use Rattle.same_gate.specs.declared.Sought.{Sought}
 use Rattle.same_gate.specs.Listed.{list_base, same_ins, listed, Searched}
 
 -- ---- equal lists
@@ -67,9 +68,6 @@ module _ (l : List ℕ) (f : ℕ) where
       pub same_input : (f + j < 2048) × (net_size ≤ length l)
       same_input = (omega (arith, P.1), omega (arith, P.0))
 
-      pub same_count : Fits w64 (j + 1)
-      same_count = record { fits = omega (arith, P.1) }
-
     pub same_end : j ≤ n → n ≤ j → same_ins l f j ≡ true → true ≡ same_ins l f n
     same_end a b e = sym e ∙ ap (same_ins l f) (le_antisymm a b)
 
@@ -93,29 +91,29 @@ module _ (l : List ℕ) (w : ℕ) (s : Searched l (w + 1)) where
 pub inputs_in_lem : (l : List ℕ) (w n f : ℕ) → Searched l (w + 1) → f ≡ first_at l w → n ≡ count_at l w → (16384 ≤ length l) × (f + n ≤ 2048)
 inputs_in_lem l w n f s e q = (s.long, rw (e, q) (s.ends w (omega arith)))
 
-module _ (l : List ℕ) (w k n lo hi : ℕ) where
-  pub kind_differs : (k ≡ kind_at l w → ⊥) → false ≡ same_gate (listed l k n lo hi) (gate_at l w)
+module _ (l : List ℕ) (w : ℕ) (g : Sought) where
+  pub kind_differs : (g.kind ≡ kind_at l w → ⊥) → false ≡ same_gate (listed l g) (gate_at l w)
   unfolding same_gate listed gate_at
   kind_differs h = rw (ne_eqb _ _ h)
 
-  pub count_differs : (n ≡ count_at l w → ⊥) → false ≡ same_gate (listed l k n lo hi) (gate_at l w)
+  pub count_differs : (g.n ≡ count_at l w → ⊥) → false ≡ same_gate (listed l g) (gate_at l w)
   unfolding same_gate listed gate_at ins_at
   count_differs h =
       simp (
-        same_list_length (tab (cell l list_base) n) (tab (λ j. input_at l (first_at l w + j)) (count_at l w))
-            (λ e. h (sym (length_tab (cell l list_base) n) ∙ e ∙ length_tab (λ j. input_at l (first_at l w + j)) (count_at l w))),
+        same_list_length (tab (cell l list_base) g.n) (tab (λ j. input_at l (first_at l w + j)) (count_at l w))
+            (λ e. h (sym (length_tab (cell l list_base) g.n) ∙ e ∙ length_tab (λ j. input_at l (first_at l w + j)) (count_at l w))),
         and-false,
       )
 
-  pub inputs_differ : (t : Bool) → n ≡ count_at l w → t ≡ same_ins l (first_at l w) n → t ≡ false → false ≡ same_gate (listed l k n lo hi) (gate_at l w)
+  pub inputs_differ : (t : Bool) → g.n ≡ count_at l w → t ≡ same_ins l (first_at l w) g.n → t ≡ false → false ≡ same_gate (listed l g) (gate_at l w)
   unfolding same_gate listed gate_at ins_at same_ins
-  inputs_differ t c e f = rw (← c, ← e, f) (sym (and-false (eqb k (kind_at l w))))
+  inputs_differ t c e f = rw (← c, ← e, f) (sym (and-false (eqb g.kind (kind_at l w))))
 
   -- all else agrees: the table decides
-  pub table_decides : (t : Bool) → k ≡ kind_at l w → n ≡ count_at l w → t ≡ same_ins l (first_at l w) n → t ≡ true
-      → lo < 2 ^ 32 → low_at l w < 2 ^ 32 → (eqb lo (low_at l w) && eqb hi (high_at l w)) ≡ same_gate (listed l k n lo hi) (gate_at l w)
+  pub table_decides : (t : Bool) → g.kind ≡ kind_at l w → g.n ≡ count_at l w → t ≡ same_ins l (first_at l w) g.n → t ≡ true
+      → g.low < 2 ^ 32 → low_at l w < 2 ^ 32 → (eqb g.low (low_at l w) && eqb g.high (high_at l w)) ≡ same_gate (listed l g) (gate_at l w)
   unfolding same_gate listed gate_at ins_at same_ins
-  table_decides t p c e f a b = rw (eq-eqb _ _ p, ← c, ← e, f) (table_eq lo hi (low_at l w) (high_at l w) a b)
+  table_decides t p c e f a b = rw (eq-eqb _ _ p, ← c, ← e, f) (table_eq g.low g.high (low_at l w) (high_at l w) a b)
 
 -- ---- the first of a list
 

@@ -4,14 +4,15 @@ use Rattle.laws.specs.Lists.{tab}
 use Rattle.model.specs.Gate.{Gate}
 use Rattle.model.specs.Network.{same_list}
 use Rattle.tables.specs.Layout.{first_at, count_at, input_at, cell}
+use Rattle.same_gate.specs.declared.Sought.{Sought}
 
 -- where the list begins
 abbrev pub list_base : ℕ
 list_base = 11328
 
--- the gate whose n inputs stand in the list
-unfoldable pub listed : List ℕ → ℕ → ℕ → ℕ → ℕ → Gate
-listed l k n lo hi = record { kind = k; ins = tab (cell l list_base) n; table = lo + 2 ^ 32 * hi }
+-- the gate that is sought, its inputs in the list of l
+unfoldable pub listed : List ℕ → Sought → Gate
+listed l g = record { kind = g.kind; ins = tab (cell l list_base) g.n; table = g.low + 2 ^ 32 * g.high }
 
 -- whether the n inputs from f on are those in the list
 unfoldable pub same_ins : List ℕ → ℕ → ℕ → Bool

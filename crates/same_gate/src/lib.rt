@@ -1,4 +1,4 @@
-// Whether a new node of dedup has the gate whose inputs stand in the list.
+// Whether a new node of dedup has the gate that is sought.
 #![tactic(auto)]
 
 ghost use Rattle.std.specs.Prelude.{◌≡◌, ◌+◌, ◌≤◌, length};
@@ -12,34 +12,41 @@ use tables::scratch::word;
 // Behind every other table: room for all inputs that a gate can have, and for three.
 pub const LIST: usize = 11328;
 
+// The gate that is sought, by its kind's code: its n inputs stand in the list.
+#[derive(Clone, Copy)]
+pub struct Sought {
+    pub kind: u32,
+    pub n: usize,
+    pub low: u32,
+    pub high: u32,
+}
+
 // Whether the n inputs from `first` on are those in the list.
 fn same_inputs(to: &[u32], first: usize, n: usize) -> bool
     requires { (16384 ≤ length to.now) × (first + n ≤ 2048) }
     ensures { result ≡ same_ins to.now first n }
 {
-    let mut j: usize = 0;
-    while j < n {
+    for j in 0..n {
         if word(to, LIST, j) != input_at(to, first + j) {
             return false;
         }
-        j += 1;
     }
     true
 }
 
-// Whether node w's gate is the one in the list: kind, inputs in order and table agree.
-pub fn same_gate(to: &[u32], w: usize, kind: u32, n: usize, low: u32, high: u32) -> bool
+// Whether node w's gate is the one sought: kind, inputs in order and table agree.
+pub fn same_gate(to: &[u32], w: usize, g: Sought) -> bool
     requires { Searched to.now (w + 1) }
-    ensures { result ≡ same_gate (listed to.now kind n low high) (gate_at to.now w) }
+    ensures { result ≡ same_gate (listed to.now g) (gate_at to.now w) }
 {
-    if kind != kind_at(to, w) {
+    if g.kind != kind_at(to, w) {
         return false;
     }
-    if n != count_at(to, w) {
+    if g.n != count_at(to, w) {
         return false;
     }
-    if !same_inputs(to, first_at(to, w), n) {
+    if !same_inputs(to, first_at(to, w), g.n) {
         return false;
     }
-    (low == low_at(to, w)) & (high == high_at(to, w))
+    (g.low == low_at(to, w)) & (g.high == high_at(to, w))
 }

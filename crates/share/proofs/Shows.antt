@@ -8,8 +8,9 @@ use lib.ListN.{length, take, drop, length-append, replicate, length-replicate}
 use lib.Seq.{take_at}
 use lib.Dec.{eqb, leb}
 use borrow.Author.Tests.{lt-ltb, le-ltb}
-use Rattle.answers.specs.declared.Answer.{Answer}
-use Rattle.answers.specs.declared.Answer.TheVariants.{Accepted, Refused}
+use Rattle.std.specs.Prelude.{Result, Ok, Err}
+use Rattle.refusals.specs.Numbers.{number, numbered}
+use Rattle.refusals.specs.declared.Refusal.{Refusal}
 use Rattle.laws.proofs.Choices.{by_bool}
 use Rattle.model.specs.Answers.{Outcome, refused, written, evaluated, answer_of, result_after, laid_over, areas_short, in_areas, in_room, unless, Kept}
 use Rattle.model.specs.Image.{refusal_of, net_of}
@@ -94,37 +95,37 @@ laid_room x b e = omega (arith, e, length-append x (drop (length x) b))
 
 -- ---- show
 
-outcome_refused : (o : Outcome) (b : List ℕ) (n : ℕ) (b1 : List ℕ) → Refused n ≡ answer_of o → b1 ≡ result_after o b → (b2 : List ℕ) (p : ℕ)
+outcome_refused : (o : Outcome) (b : List ℕ) (n : ℕ) (b1 : List ℕ) → Err n ≡ answer_of o → b1 ≡ result_after o b → (b2 : List ℕ) (p : ℕ)
     → Shown (refused_text n) b1 b2 p → Shown (text_for o) b b2 p
 outcome_refused (refused m) b n b1 e f b2 p S = let z : n ≡ m = cc in rw (← z, ← f) S
 outcome_refused (written w m) b n b1 e f b2 p S = let z : ◌≡◌ {A = ℕ} 0 1 = cc in absurd (omega arith)
 outcome_refused (evaluated w m) b n b1 e f b2 p S = let z : ◌≡◌ {A = ℕ} 0 1 = cc in absurd (omega arith)
 
-outcome_written : (o : Outcome) → Plain o → (b : List ℕ) (n : ℕ) (b1 : List ℕ) → Accepted n ≡ answer_of o → b1 ≡ result_after o b → length b1 ≡ length b
+outcome_written : (o : Outcome) → Plain o → (b : List ℕ) (n : ℕ) (b1 : List ℕ) → Ok n ≡ answer_of o → b1 ≡ result_after o b → length b1 ≡ length b
     → Shown (text_for o) b b1 n
 unfolding Plain
 outcome_written (refused m) h b n b1 e f l = let z : ◌≡◌ {A = ℕ} 0 1 = cc in absurd (omega arith)
 outcome_written (written w m) h b n b1 e f l = record { bytes = f; end = cc; room = laid_room w b (ap length (sym f) ∙ l) }
 outcome_written (evaluated _ _) h b n b1 e f l = elim h [ ]
 
-module _ (img b : List ℕ) (x : Answer) (b1 : List ℕ) (D : Answered (list_outcome img (length b)) b x b1) where
-  pub show_refused : (n : ℕ) → x ≡ Refused n → (b2 : List ℕ) (p : ℕ) → Shown (refused_text n) b1 b2 p → Shown (text_for (list_outcome img (length b))) b b2 p
-  show_refused n q b2 p S = outcome_refused (list_outcome img (length b)) b n b1 (sym q ∙ D.answer) D.result b2 p S
+module _ (img b : List ℕ) (x : Result ℕ Refusal) (b1 : List ℕ) (D : Answered (list_outcome img (length b)) b (numbered x) b1) where
+  pub show_refused : (e : Refusal) → x ≡ Err e → (b2 : List ℕ) (p : ℕ) → Shown (refused_text (number e)) b1 b2 p → Shown (text_for (list_outcome img (length b))) b b2 p
+  show_refused e q b2 p S = outcome_refused (list_outcome img (length b)) b (number e) b1 (sym (ap numbered q) ∙ D.answer) D.result b2 p S
 
-  pub show_listed : (n : ℕ) → x ≡ Accepted n → length b1 ≡ length b → Shown (text_for (list_outcome img (length b))) b b1 n
-  show_listed n q l = outcome_written (list_outcome img (length b)) (plain_list img (length b)) b n b1 (sym q ∙ D.answer) D.result l
+  pub show_listed : (n : ℕ) → x ≡ Ok n → length b1 ≡ length b → Shown (text_for (list_outcome img (length b))) b b1 n
+  show_listed n q l = outcome_written (list_outcome img (length b)) (plain_list img (length b)) b n b1 (sym (ap numbered q) ∙ D.answer) D.result l
 
 pub ruleset shows = (show_refused, show_listed)
 
 -- ---- answer
 
 module _ (text t' : List ℕ) (r : ℕ) where
-  printed_refused : (o : Outcome) (n : ℕ) → Refused n ≡ answer_of o → Shown (refused_text n) text t' r → Shown (printed_for o (length text)) text t' r
+  printed_refused : (o : Outcome) (n : ℕ) → Err n ≡ answer_of o → Shown (refused_text n) text t' r → Shown (printed_for o (length text)) text t' r
   printed_refused (refused m) n e S = let z : n ≡ m = cc in rw (← z) S
   printed_refused (written w m) n e S = let z : ◌≡◌ {A = ℕ} 0 1 = cc in absurd (omega arith)
   printed_refused (evaluated w m) n e S = let z : ◌≡◌ {A = ℕ} 0 1 = cc in absurd (omega arith)
 
-  printed_listed : (o : Outcome) → Plain o → (out : List ℕ) (n : ℕ) (out1 : List ℕ) → Accepted n ≡ answer_of o → out1 ≡ result_after o out
+  printed_listed : (o : Outcome) → Plain o → (out : List ℕ) (n : ℕ) (out1 : List ℕ) → Ok n ≡ answer_of o → out1 ≡ result_after o out
       → Shown (text_for (list_outcome (take n out1) (length text))) text t' r → Shown (printed_for o (length text)) text t' r
   unfolding Plain laid_over
   printed_listed (refused m) h out n out1 e f S = let z : ◌≡◌ {A = ℕ} 0 1 = cc in absurd (omega arith)
@@ -144,20 +145,20 @@ module _ (input out a b text t' : List ℕ) (r : ℕ) where
   answer_long h k S = rw (le-ltb (length input) 4 h, lt-ltb 16384 (length input) k) S
 
   -- o is the outcome of the entry that was called
-  module _ (o : Outcome) (x : Answer) (out1 a1 b1 : List ℕ) (K : Kept o out a b x out1 a1 b1) (e : printed_of input out a b (length text) ≡ printed_for o (length text))
-      (n : ℕ) where
-    pub answer_refused : x ≡ Refused n → Shown (refused_text n) text t' r → Shown (printed_of input out a b (length text)) text t' r
-    answer_refused q S = rw e (printed_refused text t' r o n (sym q ∙ K.answer) S)
+  module _ (o : Outcome) (x : Result ℕ Refusal) (out1 a1 b1 : List ℕ) (K : Kept o out a b (numbered x) out1 a1 b1)
+      (e : printed_of input out a b (length text) ≡ printed_for o (length text)) where
+    pub answer_refused : (d : Refusal) → x ≡ Err d → Shown (refused_text (number d)) text t' r → Shown (printed_of input out a b (length text)) text t' r
+    answer_refused d q S = rw e (printed_refused text t' r o (number d) (sym (ap numbered q) ∙ K.answer) S)
 
-    pub answer_listed : Plain o → x ≡ Accepted n → Shown (text_for (list_outcome (take n out1) (length text))) text t' r
+    pub answer_listed : (n : ℕ) → Plain o → x ≡ Ok n → Shown (text_for (list_outcome (take n out1) (length text))) text t' r
         → Shown (printed_of input out a b (length text)) text t' r
-    answer_listed h q S = rw e (printed_listed text t' r o h out n out1 (sym q ∙ K.answer) K.result S)
+    answer_listed n h q S = rw e (printed_listed text t' r o h out n out1 (sym (ap numbered q) ∙ K.answer) K.result S)
 
 -- the image that an entry wrote is within its buffer
-pub image_room : (o : Outcome) → Plain o → (out a b : List ℕ) (x : Answer) (out1 a1 b1 : List ℕ) → Kept o out a b x out1 a1 b1 → (n : ℕ) → x ≡ Accepted n
+pub image_room : (o : Outcome) → Plain o → (out a b : List ℕ) (x : Result ℕ Refusal) (out1 a1 b1 : List ℕ) → Kept o out a b (numbered x) out1 a1 b1 → (n : ℕ) → x ≡ Ok n
     → length out1 ≡ length out → n ≤ length out1
 image_room o h out a b x out1 a1 b1 K n q l =
-    let S = outcome_written o h out n out1 (sym q ∙ K.answer) K.result l in
+    let S = outcome_written o h out n out1 (sym (ap numbered q) ∙ K.answer) K.result l in
     omega (arith, S.end, S.room)
 
 pub ruleset answers = (answer_short, answer_long, answer_refused, answer_listed, image_room)

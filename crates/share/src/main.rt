@@ -6,12 +6,14 @@ ghost use Rattle.std.specs.Prelude.{◌≤◌, length};
 ghost use Rattle.tables.specs.Layout.{net_size};
 ghost use Rattle.tables.specs.Working.{Answered};
 ghost use Rattle.share.specs.Texts.{refused_text, list_outcome, text_for, printed_of, Shown, Lent};
+ghost use Rattle.refusals.specs.Numbers.{number, numbered};
 
 use answers::Answer;
 use listing::listing;
 use listing::text::{put_all, put_number};
-use load::{Loaded, load_image};
+use load::load;
 use reading::read_full;
+use refusals::Refusal;
 use sharing::share::share;
 use std::io;
 use std::io::Write;
@@ -19,25 +21,22 @@ use text_parts::put;
 use words::word_at;
 
 // `refused` and the number, at the front of the text. Its length, as each of these answers.
-fn refuse(n: u32, text: &mut [u8]) -> usize
+fn refuse(why: Refusal, text: &mut [u8]) -> usize
     requires { 32768 ≤ length text.old }
-    ensures { Shown (refused_text n) text.old text.new result }
+    ensures { Shown (refused_text (number why)) text.old text.new result }
 {
     let number = put_all(text, 0, b"refused ");
-    let end = put_number(text, number, n as u64);
+    let end = put_number(text, number, u32::from(why) as u64);
     put(text, end, b'\n')
 }
 
 // The listing of an image's network.
 fn list(image: &[u8], area: &mut [u32], text: &mut [u8]) -> Answer
     requires { net_size ≤ length area.old }
-    ensures { Answered (list_outcome image.now (length text.old)) text.old result text.new }
+    ensures { Answered (list_outcome image.now (length text.old)) text.old (numbered result) text.new }
 {
-    let l = load_image(image, area);
-    match l {
-        Loaded::Refused(n) => Answer::Refused(n),
-        Loaded::Network(counts) => listing(area, counts, text),
-    }
+    let counts = load::<false>(image, area)?;
+    listing(area, counts, text)
 }
 
 // The same, or the number that refuses it.
@@ -45,10 +44,9 @@ fn show(image: &[u8], area: &mut [u32], text: &mut [u8]) -> usize
     requires { Lent area.old text.old }
     ensures { Shown (text_for (list_outcome image.now (length text.old))) text.old text.new result }
 {
-    let r = list(image, area, text);
-    match r {
-        Answer::Refused(n) => refuse(n, text),
-        Answer::Accepted(len) => len,
+    match list(image, area, text) {
+        Ok(len) => len,
+        Err(why) => refuse(why, text),
     }
 }
 
@@ -58,16 +56,15 @@ fn answer(input: &[u8], out: &mut [u8], a: &mut [u32], b: &mut [u32], text: &mut
     ensures { Shown (printed_of input.now out.old a.old b.old (length text.old)) text.old text.new result }
 {
     if input.len() < 4 {
-        return refuse(2, text);
+        return refuse(Refusal::Frame, text);
     }
     if 16384 < input.len() {
-        return refuse(2, text);
+        return refuse(Refusal::Frame, text);
     }
     let limit = word_at(input, 0);
-    let r = share(&input[4..], limit, out, a, b);
-    match r {
-        Answer::Refused(n) => refuse(n, text),
-        Answer::Accepted(len) => show(&out[..len], a, text),
+    match share(&input[4..], limit, out, a, b) {
+        Ok(len) => show(&out[..len], a, text),
+        Err(why) => refuse(why, text),
     }
 }
 

@@ -1,4 +1,2 @@
 pub mod Passing
-pub mod Choosing
-pub mod Sharing
 pub mod Unique

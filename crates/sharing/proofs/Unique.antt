@@ -1,7 +1,7 @@
 -- No second answer satisfies the promise of an entry.
 use mathlib.Core.List.{List}
 use Prim.Native.Nat.{ℕ}
-use Rattle.answers.specs.declared.Answer.{Answer}
+use Rattle.model.specs.Answers.{Answer}
 use Rattle.model.specs.Answers.{Outcome, Kept}
 use Rattle.model.specs.Entries.{flatten_outcome, factor_outcome, share_outcome}
 use Rattle.tables.proofs.Unique.{Same, unique}

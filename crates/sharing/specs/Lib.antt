@@ -1,2 +1,1 @@
 pub mod Works
-pub mod Tasks

@@ -1,26 +1,14 @@
--- Each entry's outcome behind 1, from the image and the length lent; and what a last stage delivers.
-use Rattle.std.specs.Prelude.{◌≡◌, ℕ, cond, List, []}
+-- Each entry's outcome behind 1, from the image and the length lent.
+use Rattle.std.specs.Prelude.{ℕ, cond, List, []}
 use Rattle.model.specs.Gate.{Net}
 use Rattle.model.specs.Sharing.{flatten_nary, factor_nary, factor_refusal, any_repeats, share_logic}
 use Rattle.model.specs.Image.{sorted_refusal_of, net_of, image_of}
-use Rattle.model.specs.Answers.{Outcome, refused, written, in_room, unless}
-use Rattle.tables.specs.Holding.{network_of, Held}
-use Rattle.tables.specs.declared.counts.Counts.{Counts}
+use Rattle.model.specs.Answers.{Outcome, written, in_room, unless}
 use Rattle.stages.specs.Stages.{flat_refusal}
-use Rattle.stages.specs.declared.Stage.{Stage}
-use Rattle.stages.specs.declared.Stage.TheVariants.{Refused, Network}
 
 -- the image of a network, unless a number refuses it
 abbrev pub imaged : ℕ → Net → Outcome
 imaged k N = unless k (written (image_of N) [])
-
--- what a last stage comes to: its number, or the image of the network in its area, or 13
-abbrev pub delivered : List ℕ → Stage → ℕ → Outcome
-delivered l (Refused n) room = refused n
-delivered l (Network c) room = in_room room 0 (written (image_of (network_of l c)) [])
-
-pub record Deliverable (l : List ℕ) (s : Stage) : Type 0 where
-  pub held : (c : Counts) → s ≡ Network c → Held l c
 
 unfoldable pub flatten_pass : ℕ → Net → Outcome
 flatten_pass limit N = imaged (flat_refusal N limit) (flatten_nary N limit)

@@ -1,13 +1,17 @@
 // factor: 1; 2 to 7; 9; 11 and 12; 13; or the image of the factored network.
 ghost use Rattle.model.specs.Answers.{Kept};
 ghost use Rattle.model.specs.Entries.{factor_outcome};
+ghost use Rattle.refusals.specs.Numbers.{numbered};
 
-use crate::shell::enter;
-use crate::work::Task;
+use crate::work;
 use answers::Answer;
+use lending::lend;
 
 pub fn factor(image: &[u8], out: &mut [u8], a: &mut [u32], b: &mut [u32]) -> Answer
-    ensures { Kept (factor_outcome image.now out.old a.old b.old) out.old a.old b.old result out.new a.new b.new }
+    ensures { Kept (factor_outcome image.now out.old a.old b.old) out.old a.old b.old (numbered result) out.new a.new b.new }
 {
-    enter(Task::Factor, image, out, a, b)
+    let mut nothing = [0u8; 0];
+    lend(out, &mut nothing, a, b, |out, _, a, b| {
+        work::factor(image, out, a, b)
+    })
 }

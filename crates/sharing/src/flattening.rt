@@ -1,13 +1,17 @@
 // flatten: 1; 2 to 7; 10; 13; or the image of the flattened network.
 ghost use Rattle.model.specs.Answers.{Kept};
 ghost use Rattle.model.specs.Entries.{flatten_outcome};
+ghost use Rattle.refusals.specs.Numbers.{numbered};
 
-use crate::shell::enter;
-use crate::work::Task;
+use crate::work;
 use answers::Answer;
+use lending::lend;
 
 pub fn flatten(image: &[u8], limit: u32, out: &mut [u8], a: &mut [u32], b: &mut [u32]) -> Answer
-    ensures { Kept (flatten_outcome image.now out.old a.old b.old limit) out.old a.old b.old result out.new a.new b.new }
+    ensures { Kept (flatten_outcome image.now out.old a.old b.old limit) out.old a.old b.old (numbered result) out.new a.new b.new }
 {
-    enter(Task::Flatten(limit), image, out, a, b)
+    let mut nothing = [0u8; 0];
+    lend(out, &mut nothing, a, b, |out, _, a, b| {
+        work::flatten(image, limit, out, a, b)
+    })
 }

@@ -6,7 +6,7 @@ use native.Mathlib.Omega.{arith}
 use native.Mathlib.Decide.{ℕ_discrete, dec_lt}
 use mathlib.Core.Bool.{Bool, true, false, not, ◌&&◌}
 use mathlib.Core.List.{List}
-use lib.ListN.{length, get_or, get_or-eq_default}
+use lib.ListN.{get_or}
 use lib.Dec.{eqb}
 use lib.Bits.{bit_and, bit_xor, and_mask, and_high, xor_step, xor_zero_r, differ}
 use mir.Val.{bool_byte}
@@ -54,14 +54,7 @@ pub mask_flip : (s : ℕ) (b : Bool) → bit_xor s (bool_byte b) ≡ flip s b
 mask_flip s true = mask_not s
 mask_flip s false = xor_zero_r s ∙ sym (flip_false s)
 
--- the bits of an index, turned round
-pub mask_index : (s i : ℕ) → i ≡ s / 2 → s < 4294967296 → bit_and (4294967295 - i) 2147483647 ≡ 2147483647 - s / 2
-mask_index s i h l = let e : bit_and (4294967295 - i) 2147483647 ≡ (4294967295 - i) % 2147483648 = and_mask (4294967295 - i) 31 in omega arith
-
 -- ---- remap_order
-
-pub entry_none : (t : List ℕ) (v : ℕ) → length t ≤ v → 0 ≡ get_or t v 0
-entry_none t v h = sym (get_or-eq_default t 0 h)
 
 is_var_lem : (s : ℕ) → is_var s ≡ true → (2 ≤ s) × (s < 2147483648)
 unfolding is_var
@@ -102,4 +95,4 @@ pub remap_goes : (s : ℕ) (t : List ℕ) (v w r : ℕ) (i : Bool) → 2 ≤ s �
     → r ≡ flip w i → r ≡ remapped t s
 remap_goes s t v w r i h l e d j f = f ∙ rw (d, e, j) (sym (remap_var (λ v. get_or t v 0) s h l))
 
-pub ruleset masks = (mask_input, mask_inverted, mask_plain, mask_not, mask_flip, mask_index, entry_none, var_low, var_high, remap_stays, remap_goes)
+pub ruleset masks = (mask_input, mask_inverted, mask_plain, mask_not, mask_flip, var_low, var_high, remap_stays, remap_goes)

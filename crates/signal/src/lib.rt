@@ -5,11 +5,14 @@ ghost use Rattle.std.specs.Prelude.{◌≡◌, not, ◌+◌, ◌-◌, ◌*◌, �
 ghost use Rattle.model.specs.Signal.{is_inverted, flip, neg, without_inversion, from_bool, from_var, from_input, is_input, is_constant, is_var};
 ghost use Rattle.signal.specs.Signals.{remapped};
 
-#[derive(Clone, Copy)]
+use std::ops::{BitXor, Not};
+
+#[derive(Clone, Copy, PartialEq, Eq, PartialOrd, Ord)]
 pub struct Signal {
     pub a: u32,
 }
 
+#[tactic(auto, using(crate::proofs::Masks::masks))]
 impl Signal {
     pub const ZERO: Signal = Signal { a: 0 };
 
@@ -50,13 +53,6 @@ impl Signal {
         Signal { a: v << 1 }
     }
 
-    // The constant of a truth value.
-    pub fn from_bool(b: bool) -> Signal
-        ensures { result.a ≡ from_bool b }
-    {
-        Signal::ZERO.xor(b)
-    }
-
     pub fn ind(self) -> u32
         ensures { result ≡ self.a / 2 }
     {
@@ -75,6 +71,7 @@ impl Signal {
         self.a & 0x8000_0000 != 0
     }
 
+    #[tactic(auto, unfolding(model::specs::Signal::is_var))]
     pub fn is_var(self) -> bool
         ensures { result ≡ is_var self.a }
     {
@@ -109,22 +106,6 @@ impl Signal {
         Signal { a: self.a & !1 }
     }
 
-    // The Rust's `!`.
-    pub fn not(self) -> Signal
-        ensures { result.a ≡ neg self.a }
-    {
-        Signal { a: self.a ^ 1 }
-    }
-
-    // The Rust's `^`: inverted by b.
-    pub fn xor(self, b: bool) -> Signal
-        ensures { result.a ≡ flip self.a b }
-    {
-        Signal {
-            a: self.a ^ b as u32,
-        }
-    }
-
     // Through a translation of the nodes; constants and inputs stay. A node past the table goes to zero.
     pub fn remap_order(self, t: &[u32]) -> Signal
         ensures { result.a ≡ remapped t.now self.a }
@@ -132,16 +113,41 @@ impl Signal {
         if !self.is_var() {
             return self;
         }
-        Signal::entry(t, self.var() as usize).xor(self.is_inverted())
+        let word = t.get(self.var() as usize).copied().unwrap_or(0);
+        Signal { a: word } ^ self.is_inverted()
     }
+}
 
-    // Word v of a translation, zero past its end.
-    fn entry(t: &[u32], v: usize) -> Signal
-        ensures { result.a ≡ get_or t.now v 0 }
-    {
-        if v < t.len() {
-            return Signal { a: t[v] };
+// The constant of a truth value.
+impl From<bool> for Signal {
+    ghost from_gives = { λ b s. s.a ≡ from_bool b };
+
+    fn from(b: bool) -> Signal {
+        Signal::ZERO ^ b
+    }
+}
+
+#[tactic(auto, using(crate::proofs::Masks::masks))]
+impl Not for Signal {
+    type Output = Signal;
+
+    ghost not_gives = { λ s r. r.a ≡ neg s.a };
+
+    fn not(self) -> Signal {
+        Signal { a: self.a ^ 1 }
+    }
+}
+
+// Inverted by b.
+#[tactic(auto, using(crate::proofs::Masks::masks))]
+impl BitXor<bool> for Signal {
+    type Output = Signal;
+
+    ghost bitxor_gives = { λ s b r. r.a ≡ flip s.a b };
+
+    fn bitxor(self, b: bool) -> Signal {
+        Signal {
+            a: self.a ^ b as u32,
         }
-        Signal::ZERO
     }
 }

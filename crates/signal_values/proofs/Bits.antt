@@ -7,6 +7,7 @@ use native.Mathlib.Decide.{ℕ_discrete}
 use mathlib.Core.Bool.{Bool, true, false, ◌&&◌}
 use mathlib.Core.List.{List}
 use lib.Dec.{eqb}
+use mir.Val.{bool_byte}
 use lib.Bits.{bit_and, bit_xor, and_mask, and_step, xor_step, differ}
 use borrow.Author.Tests.{eq-eqb, ne_eqb}
 use Rattle.laws.specs.Bools.{xor, bit}
@@ -67,13 +68,18 @@ parity_and x y =
           rw w (ne_eqb (bit_and x y % 2) 1 (omega arith))
     ]
 
+-- a truth value as a number
+pub byte_bit : (b : Bool) → bool_byte b ≡ bit b
+byte_bit true = refl
+byte_bit false = refl
+
 -- a word that is a truth value's
 pub odd_bit : (b : Bool) → is_odd (bit b) ≡ b
 odd_bit true = refl
 odd_bit false = refl
 
-pub bit_odd : (r : ℕ) (b c : Bool) → r ≡ bit b → b ≡ c → is_odd r ≡ c
-bit_odd r b c p q = ap is_odd p ∙ odd_bit b ∙ q
+pub bit_odd : (r : ℕ) (b c : Bool) → r ≡ bool_byte b → b ≡ c → is_odd r ≡ c
+bit_odd r b c p q = ap is_odd (p ∙ byte_bit b) ∙ odd_bit b ∙ q
 
 -- what `value_word` and `value` read
 pub reads_word : (t : List ℕ) (s i x : ℕ) → i ≡ slot s → x ≡ cell t values_base i → is_odd (bit_xor x s) ≡ value_at t s

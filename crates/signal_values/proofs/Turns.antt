@@ -9,14 +9,14 @@ use mathlib.Core.List.{List}
 use lib.ListN.{length, drop, length-drop, drop_of_length-le}
 use lib.Bits.{bit_and}
 use mir.Syntax.{w64}
-use mir.Val.{Fits}
+use mir.Val.{Fits, bool_byte}
 use Rattle.laws.specs.Bools.{bit}
 use Rattle.laws.specs.Lists.{tab}
 use Rattle.laws.proofs.Tabs.{length_tab, drop_tab}
 use Rattle.model.specs.Evaluate.{weight}
 use Rattle.tables.specs.Layout.{input_at}
 use Rattle.signal_values.specs.Signals.{values_end, slot, value_at, input_value, ones_to}
-use Rattle.signal_values.proofs.Bits.{mask_slot, slot_below, reads_word, reads_value}
+use Rattle.signal_values.proofs.Bits.{mask_slot, slot_below, byte_bit, reads_word, reads_value}
 use Rattle.signal_values.proofs.Bounds.{ones_most, weight_small}
 
 -- ---- a signal's value
@@ -24,8 +24,8 @@ use Rattle.signal_values.proofs.Bounds.{ones_most, weight_small}
 pub slot_inside : (s i : ℕ) (t : List ℕ) → i ≡ slot s → values_end ≤ length t → 4672 + i < length t
 slot_inside s i t e h = let l = slot_below s in omega arith
 
-pub slot_is : (s m r : ℕ) → m ≡ bit_and (s / 2) 2047 → r ≡ m → r ≡ slot s
-slot_is s m r e f = f ∙ e ∙ mask_slot s
+pub slot_is : (s r : ℕ) → r ≡ bit_and (s / 2) 2047 → r ≡ slot s
+slot_is s r e = e ∙ mask_slot s
 
 -- a bit is at most one
 pub bit_low : (b : Bool) → bit b ≤ 1
@@ -51,17 +51,18 @@ module _ (f t : List ℕ) (first : ℕ) where
   unfolding ones_to
   ones_none count = record { few = omega arith; sum = refl }
 
-  pub ones_fits : (n j count o w : ℕ) (b : Bool) → Ones n j count → first + count ≤ 2048 → j < count → o ≡ bit b → w ≡ o → Fits w64 (n + w)
-  ones_fits n j count o w b h r l p q =
+  pub ones_fits : (n j count o : ℕ) (b : Bool) → Ones n j count → first + count ≤ 2048 → j < count → o ≡ bool_byte b → Fits w64 (n + o)
+  ones_fits n j count o b h r l p =
       let m = ones_most (input_value f t first) j in
       let u = bit_low b in
+      let e = p ∙ byte_bit b in
       record { fits = rw h.sum (omega arith) }
 
-  pub ones_more : (n j count x o w : ℕ) (b : Bool) → Ones n j count → j < count → x ≡ input_at f (first + j) → b ≡ value_at t x → o ≡ bit b → w ≡ o
-      → Ones (n + w) (j + 1) count
+  pub ones_more : (n j count x o : ℕ) (b : Bool) → Ones n j count → j < count → x ≡ input_at f (first + j) → b ≡ value_at t x → o ≡ bool_byte b
+      → Ones (n + o) (j + 1) count
   unfolding ones_to
-  ones_more n j count x o w b h l p q r e =
-      record { few = omega arith; sum = rw (add-one, e, r, input_is j x b p q) (ap (λ k. k + bit (input_value f t first j)) h.sum) }
+  ones_more n j count x o b h l p q r =
+      record { few = omega arith; sum = rw (add-one, r, byte_bit b, input_is j x b p q) (ap (λ k. k + bit (input_value f t first j)) h.sum) }
 
   pub ones_all : (n j count : ℕ) → Ones n j count → count ≤ j → n ≡ ones_to (input_value f t first) count
   ones_all n j count h l = let e : j ≡ count = le_antisymm h.few l in h.sum ∙ rw e
@@ -87,18 +88,22 @@ module _ (f t : List ℕ) (first : ℕ) where
   pub weight_twice : (w j count : ℕ) → Weight w j count → Fits w64 (2 * w)
   weight_twice w j count h = let l = weight_low w j count h in record { fits = omega arith }
 
-  pub weight_fits : (w j count o y : ℕ) (b : Bool) → Weight w j count → o ≡ bit b → y ≡ o → Fits w64 (2 * w + y)
-  weight_fits w j count o y b h p q = let l = weight_low w j count h in let u = bit_low b in record { fits = omega arith }
+  pub weight_fits : (w j count o : ℕ) (b : Bool) → Weight w j count → o ≡ bool_byte b → Fits w64 (2 * w + o)
+  weight_fits w j count o b h p =
+      let l = weight_low w j count h in
+      let u = bit_low b in
+      let e = p ∙ byte_bit b in
+      record { fits = omega arith }
 
-  pub weight_more : (w j count x o y : ℕ) (b : Bool) → Weight w j count → 0 < j → x ≡ input_at f (first + (j - 1)) → b ≡ value_at t x → o ≡ bit b → y ≡ o
-      → Weight (2 * w + y) (j - 1) count
-  weight_more w j count x o y b h l p q r e =
+  pub weight_more : (w j count x o : ℕ) (b : Bool) → Weight w j count → 0 < j → x ≡ input_at f (first + (j - 1)) → b ≡ value_at t x → o ≡ bool_byte b
+      → Weight (2 * w + o) (j - 1) count
+  weight_more w j count x o b h l p q r =
       let g = input_value f t first in
       let k : suc (j - 1) ≡ j = omega arith in
       let d : weight (drop (suc (j - 1)) (tab g count)) ≡ w = ap (λ m. weight (drop m (tab g count))) k ∙ sym h.sum in
       let c : weight (drop (j - 1) (tab g count)) ≡ bit (g (j - 1)) + 2 * weight (drop (suc (j - 1)) (tab g count)) =
       ap weight (drop_tab g count (j - 1) false (let m = h.few in omega arith)) in
-      let u : y ≡ bit (g (j - 1)) = e ∙ r ∙ ap bit (input_is (j - 1) x b p q) in
+      let u : o ≡ bit (g (j - 1)) = r ∙ byte_bit b ∙ ap bit (input_is (j - 1) x b p q) in
       record { few = let m = h.few in omega arith; short = h.short; sum = omega arith }
 
   pub weight_all : (w j count : ℕ) → Weight w j count → j ≤ 0 → w ≡ weight (tab (input_value f t first) count)

@@ -3,30 +3,23 @@
 #![tactic(auto)]
 
 ghost use Rattle.std.specs.Prelude.{◌≡◌, cond, ◌+◌, ◌<◌, ◌≤◌, eqb, length};
-ghost use Rattle.laws.specs.Bools.{bit};
 ghost use Rattle.laws.specs.Lists.{tab};
 ghost use Rattle.model.specs.Evaluate.{weight};
 ghost use Rattle.tables.specs.Layout.{net_size};
 ghost use Rattle.signal_values.specs.Signals.{values_end, slot, is_odd, value_at, input_value, ones_to, dff_at, Reads};
 
 use kinds::is_flip_flop_code;
-use tables::layout::{input_at, kind_at, wide};
+use tables::layout::{input_at, kind_at};
 use tables::scratch::word;
 
 // They take the place of the tables behind a network, up to the stack.
 pub const VALUES: usize = 4672;
 
-pub fn one_if(b: bool) -> u32
-    ensures { result ≡ bit b }
-{
-    if b { 1 } else { 0 }
-}
-
 // Where the value of a signal's index stands: the index's low 11 bits tell all of them apart.
 fn slot(s: u32) -> usize
     ensures { result ≡ slot s }
 {
-    wide((s >> 1) & 2047)
+    ((s >> 1) & 2047) as usize
 }
 
 // A signal's value as a word of which the lowest bit counts alone: the next gate waits for no mask.
@@ -51,10 +44,8 @@ pub fn ones(from: &[u32], to: &[u32], first: usize, count: usize) -> usize
     ensures { result ≡ ones_to (input_value from.now to.now first) count }
 {
     let mut n: usize = 0;
-    let mut j: usize = 0;
-    while j < count {
-        n += wide(one_if(value(to, input_at(from, first + j))));
-        j += 1;
+    for j in 0..count {
+        n += usize::from(value(to, input_at(from, first + j)));
     }
     n
 }
@@ -64,12 +55,10 @@ pub fn all_are(from: &[u32], to: &[u32], first: usize, count: usize, b: bool) ->
     requires { Reads from.now to.now first count }
     ensures { result ≡ eqb (ones_to (input_value from.now to.now first) count) (cond b count 0) }
 {
-    let mut j: usize = 0;
-    while j < count {
-        if value(to, input_at(from, first + j)) ^ b {
+    for j in 0..count {
+        if value(to, input_at(from, first + j)) != b {
             return false;
         }
-        j += 1;
     }
     true
 }
@@ -80,10 +69,8 @@ pub fn weight(from: &[u32], to: &[u32], first: usize, count: usize) -> usize
     ensures { result ≡ weight (tab (input_value from.now to.now first) count) }
 {
     let mut w: usize = 0;
-    let mut j = count;
-    while 0 < j {
-        j -= 1;
-        w = 2 * w + wide(one_if(value(to, input_at(from, first + j))));
+    for j in (0..count).rev() {
+        w = 2 * w + usize::from(value(to, input_at(from, first + j)));
     }
     w
 }

@@ -17,17 +17,20 @@ pub struct Turn {
 }
 
 // The node on top is taken off, and visited if it was not.
-fn visit(from: &[u32], to: &mut [u32], c: Counts, sp: usize, pos: usize) -> Turn
-    requires { Live from.now to.old c sp pos × (0 < sp) }
-    ensures { Turned from.now to.old to.new c sp result }
+fn visit(from: &[u32], to: &mut [u32], c: Counts, t: Turn) -> Turn
+    requires { Live from.now to.old c t.sp t.pos × (0 < t.sp) }
+    ensures { Turned from.now to.old to.new c t.sp result }
 {
-    let top = sp - 1;
+    let top = t.sp - 1;
     let v = number(to, STACK, top);
     if 0 < word(to, MARK, v) {
-        return Turn { sp: top, pos: pos };
+        return Turn {
+            sp: top,
+            pos: t.pos,
+        };
     }
     put_word(to, MARK, v, 1);
-    let next = pos - 1;
+    let next = t.pos - 1;
     put_word(to, ORDER, next, v as u32);
     let end = count_down(from, to, first_at(from, v), count_at(from, v), top);
     Turn { sp: end, pos: next }
@@ -38,12 +41,9 @@ pub fn visit_all(from: &[u32], to: &mut [u32], c: Counts, sp: usize, pos: usize)
     requires { Live from.now to.old c sp pos }
     ensures { Flips from.now to.new c c.nodes result }
 {
-    let mut top: usize = sp;
-    let mut at: usize = pos;
-    while 0 < top {
-        let t = visit(from, to, c, top, at);
-        top = t.sp;
-        at = t.pos;
+    let mut t = Turn { sp: sp, pos: pos };
+    while 0 < t.sp {
+        t = visit(from, to, c, t);
     }
-    at
+    t.pos
 }

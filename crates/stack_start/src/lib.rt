@@ -29,16 +29,14 @@ fn start_gate(from: &[u32], to: &mut [u32], c: Counts, v: usize, sp: usize) -> u
     sp + 1
 }
 
+#[tactic(auto, using(crate::proofs::Starts::starts))]
 pub fn start(from: &[u32], to: &mut [u32], c: Counts) -> usize
     requires { Sound from.now c × Counted from.now to.old c }
     ensures { Live from.now to.new c result c.nodes }
 {
-    let n = c.nodes;
     let mut sp: usize = 0;
-    let mut v: usize = 0;
-    while v < n {
+    for v in 0..c.nodes {
         sp = start_gate(from, to, c, v, sp);
-        v += 1;
     }
     sp
 }

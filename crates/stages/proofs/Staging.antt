@@ -13,11 +13,11 @@ use Rattle.tables.specs.Holding.{network_of}
 use Rattle.tables.specs.declared.counts.Counts.{Counts}
 use Rattle.tables.proofs.Holding.{size_network, length_outputs_of}
 use Rattle.growth.specs.Growing.{counts_of}
-use Rattle.stages.specs.declared.Pass.{Pass}
-use Rattle.stages.specs.declared.Pass.TheVariants.{Grown, Pairs, Room}
-use Rattle.stages.specs.Stages.{Workable, Left, Staged, stage_of, stage_of_pass, first_met}
-use Rattle.stages.specs.declared.Stage.{Stage}
-use Rattle.stages.specs.declared.Stage.TheVariants.{Refused, Network}
+use Rattle.std.specs.Prelude.{Result, Ok, Err}
+use Rattle.refusals.specs.Numbers.{number}
+use Rattle.refusals.specs.declared.Refusal.{Refusal}
+use Rattle.refusals.proofs.Numbers.{number_above, unless_number, unless_ok_number, unless_ok_value, unless_err}
+use Rattle.stages.specs.Stages.{Workable, Left, Staged, first_met}
 
 -- ---- the counts of a network that is held are its own
 
@@ -31,46 +31,34 @@ counts_held l r N e = counts_network l r ∙ ap counts_of e
 left_counts : (N : Net) (l : List ℕ) (r : Counts) → Left N l r → r ≡ counts_of N
 left_counts N l r L = counts_held l r N L.holds.net
 
--- ---- the stage of a pass
+-- ---- a stage that is not refused, and one that is
 
-pub stage_pairs : (p : Pass) → p ≡ Pairs → Refused 11 ≡ stage_of_pass p
-unfolding stage_of_pass
-stage_pairs p q = rw q
+module _ (k : ℕ) (N : Net) (l : List ℕ) where
+  pub staged_passes : (d : Counts) → Staged k N l (Ok d) → (k ≡ 0) × (d ≡ counts_of N)
+  staged_passes d S = (unless_ok_number (Ok d) k (counts_of N) d S.answer refl, unless_ok_value (Ok d) k (counts_of N) d S.answer refl)
 
-pub stage_room : (p : Pass) → p ≡ Room → Refused 12 ≡ stage_of_pass p
-unfolding stage_of_pass
-stage_room p q = rw q
+  pub staged_number : (e : Refusal) → Staged k N l (Err e) → k ≡ number e
+  staged_number e S = sym (unless_err (Err e) k (counts_of N) e S.answer refl)
 
-pub stage_grown : (p : Pass) (c : Counts) → p ≡ Grown c → Network c ≡ stage_of_pass p
-unfolding stage_of_pass
-stage_grown p c q = rw q
-
--- ---- a stage that is not refused
-
-pub passed_by : (k : ℕ) (c d : Counts) → Network d ≡ stage_of k c → (k ≡ 0) × (d ≡ c)
-passed_by zero c d e = (refl, cc)
-passed_by (suc k) c d e = let z : ◌≡◌ {A = ℕ} 0 1 = cc in absurd (omega arith)
-
-pub refused_by : (k n : ℕ) (c : Counts) → Refused n ≡ stage_of k c → (eqb k 0 ≡ false) × (k ≡ n)
-refused_by zero n c e = let z : ◌≡◌ {A = ℕ} 0 1 = cc in absurd (omega arith)
-refused_by (suc k) n c e = (ne_eqb (suc k) 0 (λ q. omega arith), cc)
+pub staged_left : (N : Net) (l : List ℕ) (r : Counts) → Left N l r → Staged 0 N l (Ok r)
+staged_left N l r L = record { answer = ap Ok (left_counts N l r L); left = λ e. rw (← left_counts N l r L) L }
 
 -- refused with its own number
-refused_as : (k n : ℕ) (c : Counts) → eqb k 0 ≡ false → k ≡ n → Refused n ≡ stage_of k c
-refused_as zero n c e q = let z : ◌≡◌ {A = Bool} true false = cc in let y : ◌≡◌ {A = ℕ} 0 1 = ap (λ (b : Bool). cond b 0 1) z in absurd (omega arith)
-refused_as (suc k) n c e q = ap Refused (sym q)
+pub staged_refused : (k : ℕ) (N : Net) (l : List ℕ) (e : Refusal) → k ≡ number e → Staged k N l (Err e)
+staged_refused k N l e q = record {
+  answer = rw q (sym (unless_number e (counts_of N)));
+  left = λ z. let h = number_above e in absurd (omega arith);
+}
 
-pub staged_left : (N : Net) (l : List ℕ) (r : Counts) → Left N l r → Staged 0 N l (Network r)
-staged_left N l r L = record { answer = ap Network (left_counts N l r L); left = λ e. rw (← left_counts N l r L) L }
-
-pub staged_refused : (k n : ℕ) (N : Net) (l : List ℕ) → eqb k 0 ≡ false → k ≡ n → Staged k N l (Refused n)
-staged_refused k n N l e q = record { answer = refused_as k n (counts_of N) e q; left = λ z. absurd (eqb-false k 0 e z) }
+-- and passed up
+pub staged_up : (k : ℕ) (N : Net) (l : List ℕ) (r : Result Counts Refusal) (x e : Refusal) → r ≡ Err x → x ≡ e → k ≡ number e → Staged k N l r
+staged_up k N l r x e p q h = rw (p, q) (staged_refused k N l e h)
 
 -- a stage's network, asked by the next
-module _ (k : ℕ) (N : Net) (m : List ℕ) (x : Stage) (S : Staged k N m x) where
-  module _ (d : Counts) (q : x ≡ Network d) where
+module _ (k : ℕ) (N : Net) (m : List ℕ) where
+  module _ (d : Counts) (S : Staged k N m (Ok d)) where
     passed : (k ≡ 0) × (d ≡ counts_of N)
-    passed = passed_by k (counts_of N) d (sym q ∙ S.answer)
+    passed = staged_passes k N m d S
 
     left_is : Left N m d
     left_is = rw passed.1 (S.left passed.0)
@@ -79,17 +67,19 @@ module _ (k : ℕ) (N : Net) (m : List ℕ) (x : Stage) (S : Staged k N m x) whe
     next_asks from h g = record { held = left_is.holds.held; sorted = rw left_is.holds.net left_is.sorted; long_from = h; long_to = g }
 
     -- what the next stage leaves, by its number K and its network F of the network that it found
-    pub next_leaves : (K : Net → ℕ) (F : Net → Net) (l : List ℕ) (s : Stage) → Staged (K (network_of m d)) (F (network_of m d)) l s
+    pub next_leaves : (K : Net → ℕ) (F : Net → Net) (l : List ℕ) (s : Result Counts Refusal) → Staged (K (network_of m d)) (F (network_of m d)) l s
         → Staged (first_met k (K N)) (F N) l s
     next_leaves K F l s T = rw passed.0 (rw left_is.holds.net at T)
 
-  pub next_refused : (n j : ℕ) (M : Net) (l : List ℕ) → x ≡ Refused n → Staged (first_met k j) M l (Refused n)
-  next_refused n j M l q =
-      let z = refused_by k n (counts_of N) (sym q ∙ S.answer) in
-      let e : first_met k j ≡ k = rw z.0 in
-      rw e (staged_refused k n M l z.0 z.1)
+  pub next_refused : (e : Refusal) → Staged k N m (Err e) → (j : ℕ) (M : Net) (l : List ℕ) (r : Result Counts Refusal) (x : Refusal) → r ≡ Err x → x ≡ e
+      → Staged (first_met k j) M l r
+  next_refused e S j M l r x p q =
+      let z : k ≡ number e = staged_number k N m e S in
+      let h = number_above e in
+      let y : eqb k 0 ≡ false = ne_eqb k 0 (λ w. omega arith) in
+      staged_up (first_met k j) M l r x e p q (rw y z)
 
 -- the area that the first stage left its network in, and the other, for the next stage
-pub next_workable : (from to from' m : List ℕ) (c d : Counts) → Workable from to c → (k : ℕ) (N : Net) (x : Stage) → Staged k N m x → x ≡ Network d
+pub next_workable : (from to from' m : List ℕ) (c d : Counts) → Workable from to c → (k : ℕ) (N : Net) → Staged k N m (Ok d)
     → length from' ≡ length from → length m ≡ length to → Workable m from' d
-next_workable from to from' m c d W k N x S q h g = next_asks k N m x S d q from' (rw g W.long_to) (rw h W.long_from)
+next_workable from to from' m c d W k N S h g = next_asks k N m d S from' (rw g W.long_to) (rw h W.long_from)

@@ -1,26 +1,13 @@
 -- What a stage of sharing asks and leaves: the number that refuses it, or its network in an area.
-use Rattle.std.specs.Prelude.{◌≡◌, ℕ, zero, suc, ◌≤◌, true, cond, List, length, eqb, ltb}
+use Rattle.std.specs.Prelude.{◌≡◌, ℕ, ◌≤◌, true, cond, List, Result, length, eqb, ltb}
 use Rattle.model.specs.Gate.{Net, is_topo_sorted}
 use Rattle.model.specs.Network.{sorts}
 use Rattle.model.specs.Sharing.{flattened_inputs, flatten_nary, factor_refusal}
 use Rattle.tables.specs.Holding.{network_of, Held, Holds}
 use Rattle.tables.specs.declared.counts.Counts.{Counts}
 use Rattle.growth.specs.Growing.{counts_of}
-use Rattle.stages.specs.declared.Pass.{Pass}
-use Rattle.stages.specs.declared.Pass.TheVariants.{Grown, Pairs, Room}
-use Rattle.stages.specs.declared.Stage.{Stage}
-use Rattle.stages.specs.declared.Stage.TheVariants.{Refused, Network}
-
--- refused with a number, unless it is 0
-abbrev pub stage_of : ℕ → Counts → Stage
-stage_of zero c = Network c
-stage_of (suc n) c = Refused (suc n)
-
--- document 01's number of what refuses a pass, or the counts of the grown network
-unfoldable pub stage_of_pass : Pass → Stage
-stage_of_pass (Grown c) = Network c
-stage_of_pass Pairs = Refused 11
-stage_of_pass Room = Refused 12
+use Rattle.refusals.specs.Numbers.{numbered, unless}
+use Rattle.refusals.specs.declared.Refusal.{Refusal}
 
 -- 10: "gate inputs after flattening, before cleanup, pass 2,048"
 unfoldable pub flat_refusal : Net → ℕ → ℕ
@@ -53,6 +40,6 @@ pub record Left (N : Net) (l : List ℕ) (r : Counts) : Type 0 where
   pub sorted : is_topo_sorted N ≡ true
 
 -- given: refused with k, or with k zero the sorted network N in an area
-pub record Staged (k : ℕ) (N : Net) (l : List ℕ) (r : Stage) : Type 0 where
-  pub answer : r ≡ stage_of k (counts_of N)
+pub record Staged (k : ℕ) (N : Net) (l : List ℕ) (r : Result Counts Refusal) : Type 0 where
+  pub answer : numbered r ≡ unless k (counts_of N)
   pub left : k ≡ 0 → Left N l (counts_of N)

@@ -9,8 +9,8 @@ use lib.ListN.{length, take, drop, replicate}
 use lib.Seq.{drop_at, length-take-le, length_front}
 use lib.Dec.{ltb}
 use borrow.Author.Tests.{ltb-false}
-use Rattle.answers.specs.declared.Answer.{Answer}
-use Rattle.answers.specs.declared.Answer.TheVariants.{Refused}
+use Rattle.model.specs.Answers.{Answer}
+use Rattle.std.specs.Prelude.{Err}
 use Rattle.laws.proofs.Bools.{or_left, or_right}
 use Rattle.model.specs.Answers.{Outcome, areas_short, cleared, area_after, in_areas, Kept, Kept2}
 use Rattle.tables.specs.Working.{Areas, Cleared, Answered, Answered2}
@@ -19,11 +19,11 @@ use Rattle.tables.specs.Working.{Areas, Cleared, Answered, Answered2}
 
 module _ (a b : List ℕ) (t : Bool) (e : t ≡ areas_short a b) where
   module _ (s : t ≡ true) (o : Outcome) (out : List ℕ) where
-    pub short_kept : Kept (in_areas a b o) out a b (Refused 1) out a b
+    pub short_kept : Kept (in_areas a b o) out a b (Err 1) out a b
     unfolding in_areas area_after
     short_kept = let z : areas_short a b ≡ true = sym e ∙ s in record { answer = rw z; result = rw z; area_a = rw z; area_b = rw z }
 
-    pub short_kept2 : (second : List ℕ) → Kept2 (in_areas a b o) out second a b (Refused 1) out second a b
+    pub short_kept2 : (second : List ℕ) → Kept2 (in_areas a b o) out second a b (Err 1) out second a b
     unfolding in_areas
     short_kept2 second = let z : areas_short a b ≡ true = sym e ∙ s in record { first = short_kept; second_is = rw z }
 
@@ -85,7 +85,7 @@ module _ (a b : List ℕ) (t : Bool) (e : t ≡ areas_short a b) (s : t ≡ fals
     areas_both = record { long_a = long_back x a k (long_a a b t e s); long_b = long_back y b m (long_b a b t e s) }
 
     module _ (a' b' : List ℕ) (C : Cleared (x ++ drop 16384 a) (y ++ drop 16384 b) a' b') where
-      both : Cleared a b a' b'
+      pub both : Cleared a b a' b'
       both = record { area_a = C.area_a ∙ cleared_back x a k (long_a a b t e s); area_b = C.area_b ∙ cleared_back y b m (long_b a b t e s) }
 
       pub kept_both : (o : Outcome) (out : List ℕ) (r : Answer) (out' : List ℕ) → Answered o out r out' → Kept (in_areas a b o) out a b r out' a' b'

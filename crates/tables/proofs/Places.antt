@@ -1,13 +1,16 @@
 -- What a store does to each reading. With specs/Layout.antt the only file that knows the places of the words.
-use Prim.Native.Nat.{ℕ, ◌+◌, ◌*◌, ◌^◌, ◌≤◌, ◌<◌}
-use mathlib.Core.Path.{◌≡◌, ap, ◌∙◌}
+use Prim.Native.Nat.{ℕ, zero, suc, ◌+◌, ◌*◌, ◌^◌, ◌≤◌, ◌<◌}
+use mathlib.Core.Path.{◌≡◌, ap, sym, ◌∙◌}
 use mathlib.Core.List.{List}
 use mathlib.Core.Logic.{◌≢◌}
 use native.Mathlib.Omega.{arith}
-use lib.ListN.{length, get_or, set, length-set}
+use lib.ListN.{length, get_or, set, take, drop, length-set, length-take, length-drop}
 use mir.Syntax.{w32}
 use mir.Val.{Fits}
-use lib.Seq.{get_or-set_same, get_or-set_other}
+use borrow.Rule.Slice.PartMut.{put_mid}
+use lib.Seq.{paste, paste-zero, paste-suc, get_or-take, get_or-drop, get_or-set_same, get_or-set_other}
+use Rattle.std.proofs.lemmas.Slice.{put_mid-paste}
+use Rattle.tables.specs.Building.{CopiesInputs, inputs_from, put_inputs, put_outputs}
 use Rattle.tables.specs.Layout.{net_size, kind_ix, first_ix, count_ix, ins_base, tab_base, out_base, kind_at, first_at, count_at, input_at, low_at, high_at, output_at, put_gate, put_input, put_table, put_output, cell, store}
 
 -- ---- the gate table, read and put by the places that the code computes
@@ -289,3 +292,53 @@ module _ (l : List ℕ) (c j : ℕ) (far : net_size ≤ c) where
   pub cell_put_output : (o s : ℕ) → o < 64 → cell (put_output l o s) c j ≡ cell l c j
   unfolding cell put_output
   cell_put_output o s h = off1 l _ s _ (omega arith)
+
+-- ---- words copied as a part of the list
+
+put_inputs_paste : (l s : List ℕ) (at : ℕ) (f : ℕ → ℕ) (n : ℕ) → ((j : ℕ) → j < n → f j ≡ get_or s j 0) → n ≤ length s → ins_base + at + n ≤ length l
+    → put_inputs l at f n ≡ paste l (ins_base + at) s n
+unfolding put_inputs put_input
+put_inputs_paste l s at f zero h r z = paste-zero l (ins_base + at) s
+put_inputs_paste l s at f (suc n) h r z =
+    let e : ins_base + (at + n) ≡ ins_base + at + n = omega arith in
+    rw (put_inputs_paste l s at f n (λ j q. h j (omega arith)) (omega arith) (omega arith), h n (omega arith), e)
+    (paste-suc l (ins_base + at) s n 0 (omega arith) (omega arith))
+
+put_outputs_paste : (l s : List ℕ) (f : ℕ → ℕ) (m : ℕ) → ((j : ℕ) → j < m → f j ≡ get_or s j 0) → m ≤ length s → out_base + m ≤ length l
+    → put_outputs l f m ≡ paste l out_base s m
+unfolding put_outputs put_output
+put_outputs_paste l s f zero h r z = paste-zero l out_base s
+put_outputs_paste l s f (suc m) h r z =
+    rw (put_outputs_paste l s f m (λ j q. h j (omega arith)) (omega arith) (omega arith), h m (omega arith))
+    (paste-suc l out_base s m 0 (omega arith) (omega arith))
+
+-- n words from i on, one by one
+part_read : (from : List ℕ) (i n j : ℕ) → j < n → get_or (take n (drop i from)) j 0 ≡ get_or from (i + j) 0
+part_read from i n j h = get_or-take n (drop i from) j 0 h ∙ get_or-drop i from j 0
+
+module _ (from l : List ℕ) (f at n : ℕ) (C : CopiesInputs from l f at n) where
+  word_from : (j : ℕ) → inputs_from from f j ≡ get_or from (ins_base + f + j) 0
+  unfolding inputs_from input_at
+  word_from j = let a : ins_base + (f + j) ≡ ins_base + f + j = omega arith in rw a
+
+  pub inputs_copied : (k m : ℕ) → k ≡ n → m ≡ n → (ys : List ℕ) → ys ≡ take m (drop (ins_base + f) from) → put_mid (ins_base + at) k l ys ≡ put_inputs l at (inputs_from from f) n
+  inputs_copied k m e o ys y =
+      let ws = take n (drop (ins_base + f) from) in
+      let z : n ≡ length (take n (drop (ins_base + f) from)) = simp (length-take, length-drop) (omega (arith, C.source, C.ends)) in
+      put_mid-paste (ins_base + at) k l ys ws n (rw o at y) (sym e) z
+      ∙ sym (put_inputs_paste l ws at (inputs_from from f) n (λ j q. word_from j ∙ sym (part_read from (ins_base + f) n j q)) (omega (arith, z)) (omega (arith, C.long, C.room)))
+
+  pub inputs_moved : (k : ℕ) → k ≡ n → paste l (ins_base + at) (drop (ins_base + f) from) k ≡ put_inputs l at (inputs_from from f) n
+  inputs_moved k e =
+      let ws = drop (ins_base + f) from in
+      rw e
+      (sym (put_inputs_paste l ws at (inputs_from from f) n (λ j q. word_from j ∙ sym (get_or-drop (ins_base + f) from j 0)) (simp length-drop (omega (arith, C.source, C.ends))) (omega (arith, C.long, C.room))))
+
+pub outputs_copied : (from l : List ℕ) (m : ℕ) → (m ≤ 64) × (net_size ≤ length from) × (net_size ≤ length l) → (k : ℕ) → k ≡ m → (ys : List ℕ) → ys ≡ take k (drop out_base from)
+    → put_mid out_base k l ys ≡ put_outputs l (output_at from) m
+unfolding output_at
+outputs_copied from l m P k e ys y =
+    let ws = take m (drop out_base from) in
+    let z : m ≡ length (take m (drop out_base from)) = simp (length-take, length-drop) (omega (arith, P)) in
+    put_mid-paste out_base k l ys ws m (rw e at y) (sym e) z
+    ∙ sym (put_outputs_paste l ws (output_at from) m (λ j q. sym (part_read from out_base m j q)) (omega (arith, z)) (omega (arith, P)))

@@ -1,6 +1,6 @@
 -- What the work of an entry leaves of its answer and result buffers, the areas being lent to it for scratch.
 use Rattle.std.specs.Prelude.{◌≡◌, ℕ, ◌≤◌, List, length}
-use Rattle.answers.specs.declared.Answer.{Answer}
+use Rattle.model.specs.Answers.{Answer}
 use Rattle.model.specs.Answers.{Outcome, cleared, answer_of, result_after, second_after}
 
 -- both areas have their 16,384 words

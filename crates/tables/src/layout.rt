@@ -1,6 +1,7 @@
 // A network in an area: where each word of it stands, read and put; and the areas cleared.
 ghost use Rattle.std.specs.Prelude.{◌≡◌, ◌+◌, ◌-◌, ◌*◌, ◌<◌, ◌≤◌, length};
 ghost use Rattle.model.specs.Answers.{areas_short};
+ghost use Rattle.tables.specs.Building.{CopiesInputs, inputs_from, put_inputs, put_outputs};
 ghost use Rattle.tables.specs.Working.{Areas, Cleared};
 ghost use Rattle.tables.specs.Layout.{net_size, kind_ix, first_ix, count_ix, kind_at, first_at, count_at, input_at, low_at, high_at, output_at, put_gate, put_input, put_table, put_output};
 
@@ -11,12 +12,6 @@ const INS: usize = 1536;
 const TAB: usize = 3584;
 
 const OUT: usize = 4608;
-
-pub fn wide(x: u32) -> usize
-    ensures { result ≡ x }
-{
-    x as usize
-}
 
 // The places of the gate table's words.
 fn kind_ix(v: usize) -> usize
@@ -53,7 +48,7 @@ pub fn first_at(net: &[u32], v: usize) -> usize
     ensures { result ≡ first_at net.now v }
 {
     let i = first_ix(v);
-    wide(net[i])
+    net[i] as usize
 }
 
 pub fn count_at(net: &[u32], v: usize) -> usize
@@ -61,7 +56,7 @@ pub fn count_at(net: &[u32], v: usize) -> usize
     ensures { result ≡ count_at net.now v }
 {
     let i = count_ix(v);
-    wide(net[i])
+    net[i] as usize
 }
 
 pub fn input_at(net: &[u32], k: usize) -> u32
@@ -124,6 +119,30 @@ pub fn put_output(net: &mut [u32], o: usize, s: u32)
     ensures { net.new ≡ put_output net.old o s }
 {
     net[OUT + o] = s;
+}
+
+// n input words of `from`, from place f on, to place `at`.
+pub fn copy_inputs(from: &[u32], to: &mut [u32], f: usize, at: usize, n: usize)
+    requires { CopiesInputs from.now to.old f at n }
+    ensures { to.new ≡ put_inputs to.old at (inputs_from from.now f) n }
+{
+    to[INS + at..INS + at + n].copy_from_slice(&from[INS + f..INS + f + n]);
+}
+
+// The same within one network.
+pub fn move_inputs(net: &mut [u32], f: usize, at: usize, n: usize)
+    requires { CopiesInputs net.old net.old f at n }
+    ensures { net.new ≡ put_inputs net.old at (inputs_from net.old f) n }
+{
+    net.copy_within(INS + f..INS + f + n, INS + at);
+}
+
+// The first m outputs of `from`.
+pub fn copy_outputs(from: &[u32], to: &mut [u32], m: usize)
+    requires { (m ≤ 64) × (net_size ≤ length from.now) × (net_size ≤ length to.old) }
+    ensures { to.new ≡ put_outputs to.old (output_at from.now) m }
+{
+    to[OUT..OUT + m].copy_from_slice(&from[OUT..OUT + m]);
 }
 
 // 1: "either of the two work areas is below 16,384 words".

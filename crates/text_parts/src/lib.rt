@@ -10,11 +10,7 @@ ghost use Rattle.text_parts.specs.Putting.{place, Put};
 fn next(at: usize) -> usize
     ensures { result ≡ place (at + 1) }
 {
-    if at < 0xFFFF_FFFF_FFFF_FFFF {
-        at + 1
-    } else {
-        at
-    }
+    at.saturating_add(1)
 }
 
 pub fn put(out: &mut [u8], at: usize, b: u8) -> usize

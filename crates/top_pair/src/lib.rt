@@ -6,6 +6,7 @@ ghost use Rattle.model.specs.Sharing.{beats};
 ghost use Rattle.top_pair.specs.Tops.{top_of};
 
 // The best pair so far with its count; a count of 0 is no pair.
+// stays: an Option is no plainer, `wins` would first ask for it, and the comparison has it as the count that all others beat.
 #[derive(Clone, Copy)]
 pub struct Top {
     pub n: usize,
@@ -16,17 +17,5 @@ pub struct Top {
 pub fn wins(n: usize, a: u32, b: u32, t: Top) -> bool
     ensures { result ≡ beats n a b (top_of t) }
 {
-    if t.n < n {
-        return true;
-    }
-    if n < t.n {
-        return false;
-    }
-    if a < t.a {
-        return true;
-    }
-    if t.a < a {
-        return false;
-    }
-    b < t.b
+    (t.n, a, b) < (n, t.a, t.b)
 }

@@ -21,8 +21,9 @@ use Rattle.remap.specs.Remapping.{Orders, Remapped}
 use Rattle.remap.proofs.Tabled.{order_from_same, length_order_from, is_d_at, held_sound}
 use Rattle.stack_search.specs.Searching.{Flips}
 use Rattle.topo_sort.specs.Sorts.{Sortable, sorting_of, Ordering, Sorted}
-use Rattle.topo_sort.specs.declared.Sorting.{Sorting}
-use Rattle.topo_sort.specs.declared.Sorting.TheVariants.{Ordered, Looped}
+use Rattle.std.specs.Prelude.{Result, Ok, Err, ⊤}
+use Rattle.refusals.specs.declared.Refusal.{Refusal}
+use Rattle.refusals.specs.declared.Refusal.TheVariants.{Looped}
 
 module _ (from l : List ℕ) (c : Counts) (i pos : ℕ) (F : Flips from l c (i + 1) pos) where
   flip_below : i < c.nodes
@@ -93,8 +94,8 @@ pub ruleset flips = (flip_node, flip_pos, flip_done, flip_none, flip_next, flip_
 
 -- ---- the order
 
-never : {X : Type 0} → Looped ≡ Ordered → X
-never e = let z : ◌≡◌ {A = ℕ} 0 1 = cc in absurd (omega arith)
+never : {X : Type 0} → sorting_of false ≡ Ok tt → X
+never e = absurd cc
 
 pub order_sound : (from l : List ℕ) (c : Counts) → Sortable from l c → Sound from c
 order_sound from l c S = held_sound from c S.held
@@ -103,7 +104,7 @@ module _ (from l : List ℕ) (c : Counts) (pos : ℕ) (F : Flips from l c 0 pos)
   long : length (topo_order (network_of from c)) ≡ c.nodes - pos
   long = ap length F.whole ∙ length_order_from l (c.nodes - pos) pos
 
-  pub order_loop : 0 < pos → Ordering from l c Looped
+  pub order_loop : 0 < pos → Ordering from l c (Err Looped)
   order_loop h =
       let tp = F.top in
       record {
@@ -112,7 +113,7 @@ module _ (from l : List ℕ) (c : Counts) (pos : ℕ) (F : Flips from l c 0 pos)
         order = λ e. never e;
       }
 
-  pub order_full : pos ≤ 0 → Ordering from l c Ordered
+  pub order_full : pos ≤ 0 → Ordering from l c (Ok tt)
   order_full h =
       let z : pos ≡ 0 = omega arith in
       record {
@@ -123,22 +124,19 @@ module _ (from l : List ℕ) (c : Counts) (pos : ℕ) (F : Flips from l c 0 pos)
 
 -- ---- the network
 
-full : (b : Bool) → Ordered ≡ sorting_of b → b ≡ true
+full : (b : Bool) → Ok tt ≡ sorting_of b → b ≡ true
 full true e = refl
 full false e = never (sym e)
 
-module _ (from l : List ℕ) (c : Counts) (r : Sorting) (O : Ordering from l c r) where
-  pub sort_loop : r ≡ Looped → Sorted from l c Looped
-  sort_loop e = record { room = O.room; answer = sym e ∙ O.answer; holds = λ q. never q; map = λ q. never q }
-
-  pub sort_orders : (k : List ℕ) (n : ℕ) → Sortable from k c → n ≡ c.nodes → r ≡ Ordered → Orders from l c n
+module _ (from l : List ℕ) (c : Counts) (r : Result ⊤ Refusal) (O : Ordering from l c r) where
+  pub sort_orders : (k : List ℕ) (n : ℕ) → Sortable from k c → n ≡ c.nodes → r ≡ Ok tt → Orders from l c n
   sort_orders k n S en e = record {
     ok = held_sound from c S.held;
     room = O.room;
     order = rw (en, O.order e) (sort_order (network_of from c) S.held.valid.signals (full (sorts (network_of from c)) (sym e ∙ O.answer)));
   }
 
-  pub sort_done : (g : List ℕ) → r ≡ Ordered → Remapped from l g c c.nodes → Sorted from g c Ordered
+  pub sort_done : (g : List ℕ) → r ≡ Ok tt → Remapped from l g c c.nodes → Sorted from g c (Ok tt)
   unfolding topo_sort
   sort_done g e R = record {
     room = R.room;
@@ -146,5 +144,3 @@ module _ (from l : List ℕ) (c : Counts) (r : Sorting) (O : Ordering from l c r
     holds = λ q. rw (O.order e) at R.holds;
     map = λ q v h. R.map v h ∙ ap (λ (x : List ℕ). translation (size (network_of from c)) x v) (O.order e);
   }
-
-pub ruleset sortings = (sort_loop, sort_orders, sort_done)

@@ -6,6 +6,7 @@ ghost use Rattle.topo_sort.specs.Sorts.{Sortable, Ordering, Sorted};
 
 use crate::order::put_flip_flops;
 use count_deps::count_deps;
+use refusals::Refusal;
 use remap::remap;
 use stack_search::visit_all;
 use stack_start::start;
@@ -13,15 +14,8 @@ use tables::counts::Counts;
 
 pub mod order;
 
-// Whether there is an order: not where there is a combinational loop.
-#[derive(Clone, Copy)]
-pub enum Sorting {
-    Ordered,
-    Looped,
-}
-
-// The order: flip-flops first as they were, then the gates, the last visited first.
-fn topo_order(from: &[u32], to: &mut [u32], c: Counts) -> Sorting
+// The order: flip-flops first as they were, then the gates, the last visited first. There is none where there is a combinational loop.
+fn topo_order(from: &[u32], to: &mut [u32], c: Counts) -> Result<(), Refusal>
     requires { Sortable from.now to.old c }
     ensures { Ordering from.now to.new c result }
 {
@@ -30,22 +24,17 @@ fn topo_order(from: &[u32], to: &mut [u32], c: Counts) -> Sorting
     let pos = visit_all(from, to, c, sp, c.nodes);
     let end = put_flip_flops(from, to, c, pos);
     if 0 < end {
-        return Sorting::Looped;
+        return Err(Refusal::Looped);
     }
-    Sorting::Ordered
+    Ok(())
 }
 
 // The sorted network, with the mapping in its table; or a combinational loop.
-pub fn topo_sort(from: &[u32], to: &mut [u32], c: Counts) -> Sorting
+pub fn topo_sort(from: &[u32], to: &mut [u32], c: Counts) -> Result<(), Refusal>
     requires { Sortable from.now to.old c }
     ensures { Sorted from.now to.new c result }
 {
-    let r = topo_order(from, to, c);
-    match r {
-        Sorting::Looped => Sorting::Looped,
-        Sorting::Ordered => {
-            remap(from, to, c, c.nodes);
-            Sorting::Ordered
-        }
-    }
+    topo_order(from, to, c)?;
+    remap(from, to, c, c.nodes);
+    Ok(())
 }

@@ -8,6 +8,7 @@ use tables::layout::kind_at;
 use tables::scratch::{ORDER, put_word};
 
 // A flip-flop goes before what is ordered.
+#[tactic(auto, using(crate::proofs::Flipped::flips))]
 fn put_flip_flop(from: &[u32], to: &mut [u32], c: Counts, i: usize, pos: usize) -> usize
     requires { Flips from.now to.old c (i + 1) pos }
     ensures { Flips from.now to.new c i result }
@@ -20,14 +21,13 @@ fn put_flip_flop(from: &[u32], to: &mut [u32], c: Counts, i: usize, pos: usize) 
     pos
 }
 
+#[tactic(auto, using(crate::proofs::Flipped::flips))]
 pub fn put_flip_flops(from: &[u32], to: &mut [u32], c: Counts, pos: usize) -> usize
     requires { Flips from.now to.old c c.nodes pos }
     ensures { Flips from.now to.new c 0 result }
 {
     let mut at: usize = pos;
-    let mut i: usize = c.nodes;
-    while 0 < i {
-        i -= 1;
+    for i in (0..c.nodes).rev() {
         at = put_flip_flop(from, to, c, i, at);
     }
     at

@@ -11,7 +11,6 @@ use mir.Syntax.{w32, w64}
 use mir.Val.{Fits}
 use lib.ListN.{get_or, length, length-append}
 use lib.Seq.{ext_get_or}
-use borrow.Author.Tests.{not-true}
 use Rattle.laws.specs.Lists.{tab}
 use Rattle.model.specs.Sharing.{once, retain, shared_signals, takes}
 use Rattle.pairs.specs.Lists.{area_size, left_at, list_at, lists_of, put_left, put_list, put_start, sig_at, start_at}
@@ -26,7 +25,7 @@ use Rattle.tables.proofs.Holding.{length_ins_at}
 use Rattle.uses.proofs.Picking.{once_put_list, retain_ext, retain_le}
 use Rattle.uses.proofs.Slots.{lists_few, lists_next, lists_none, lists_skip, met, met_here, met_there, slot_apart, slot_next, slot_none, slot_room}
 use Rattle.uses.proofs.Tallies.{ix_small}
-use Rattle.uses.proofs.Walks.{ins_named, source_few, source_more}
+use Rattle.uses.proofs.Walks.{ins_named, source_few}
 use Rattle.kinds.specs.declared.Family.{Family}
 
 pub once_left : (l : List ℕ) (i n x : ℕ) → Named x → is_once (put_left l i n) x ≡ is_once l x
@@ -145,12 +144,9 @@ module _ (f : Family) (from l₀ l : List ℕ) (n v i at : ℕ) (inv : Loading f
   pub load_few : v < 512
   load_few = source_few from n v source h
 
-  pub load_more : Fits w64 (v + 1)
-  load_more = source_more from n v source h
-
-  pub load_skip : (t : Bool) → t ≡ takes f (gate_at from v) → not t ≡ true → Loading f from l₀ l n (v + 1) i at
+  pub load_skip : (t : Bool) → t ≡ takes f (gate_at from v) → t ≡ false → Loading f from l₀ l n (v + 1) i at
   load_skip t et q =
-      let z : takes f (gate_at from v) ≡ false = sym et ∙ not-true t q in
+      let z : takes f (gate_at from v) ≡ false = sym et ∙ q in
       record {
         upto = omega arith;
         same = inv.same;
@@ -161,7 +157,7 @@ module _ (f : Family) (from l₀ l : List ℕ) (n v i at : ℕ) (inv : Loading f
         counted = inv.counted;
       }
 
-  module _ (t : Bool) (et : t ≡ takes f (gate_at from v)) (q : not t ≡ false) where
+  module _ (t : Bool) (et : t ≡ takes f (gate_at from v)) (q : t ≡ true) where
     here : get_or (lists_in f from n) i [] ≡ ins_at from v
     here = met_here f from v n h t et q i inv.gates
 
@@ -253,4 +249,4 @@ load_end f from l₀ l n v i at inv C h =
       starts = inv.starts;
     }
 
-pub ruleset separates = (load_start, load_few, load_more, load_skip, load_gate, load_at, load_i, load_next, load_end)
+pub ruleset separates = (load_start, load_few, load_skip, load_gate, load_at, load_i, load_next, load_end)

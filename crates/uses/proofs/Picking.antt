@@ -21,7 +21,7 @@ use Rattle.pairs.proofs.Gates.{length_list}
 use Rattle.pairs.proofs.Places.{put_list_append, used_at_put_list}
 use Rattle.pairs.proofs.Walks.{drop_lists, lists_end}
 use Rattle.uses.proofs.Tallies.{ix_small}
-use Rattle.uses.proofs.Walks.{ahead, ahead_all, ahead_none, ahead_suc, node_fits, node_more, node_named, node_place}
+use Rattle.uses.proofs.Walks.{ahead, ahead_all, ahead_none, ahead_suc, node_fits, node_named, node_place}
 
 -- ---- retain
 
@@ -174,12 +174,9 @@ picks_end from l₀ l v at o w j n inv en h =
     let q : ahead from v j ≡ ins_at from v = ap (ahead from v) e ∙ ahead_all from v in
     record { count = rw (← q) inv.count; words = rw (← q) inv.words }
 
-pub ruleset picks = (node_place, node_fits, node_more, picks_start, picks_one, picks_count, picks_next, picks_place, picks_end)
+pub ruleset picks = (node_place, node_fits, picks_start, picks_one, picks_count, picks_next, picks_place, picks_end)
 
 -- ---- pair_places
-
-pub places_zero : (m : ℕ) → m ≡ 0 → 0 ≡ m * (m - 1) / 2
-places_zero m e = rw e
 
 square : (m : ℕ) → m ≤ 2048 → m * (m - 1) ≤ 4194304
 square m h = let q : m - 1 ≤ 2048 = omega arith in omega (arith, mul-le-mul_left m q)
@@ -222,4 +219,4 @@ module _ (l : List ℕ) (g t i : ℕ) (inv : Summed l g t i) where
   unfolding places_of
   place_end h = let d : places_of (drop i (lists_of l g)) ≡ 0 = rw (lists_end l g i h) in omega (arith, inv.rest)
 
-pub ruleset places = (places_zero, places_fits, places_some, place_start, place_few, place_small, place_fits, place_next, place_end)
+pub ruleset places = (places_fits, places_some, place_start, place_few, place_small, place_fits, place_next, place_end)

@@ -1,14 +1,13 @@
 -- The gates of a pass among the nodes of a network, and where their lists start.
 use Prim.Native.Nat.{suc, zero, ℕ, ◌+◌, ◌-◌, ◌<◌, ◌≤◌}
 use mathlib.Core.Path.{ap, refl, sym, ◌∙◌, ◌≡◌}
-use mathlib.Core.Bool.{Bool, false, not, true, ◌&&◌}
+use mathlib.Core.Bool.{Bool, false, true, ◌&&◌}
 use mathlib.Core.List.{List, [], append_assoc, append-nil, ◌++◌, ◌∷◌}
 use native.Mathlib.Omega.{arith}
 use native.Mathlib.Nat.{le_refl}
 use lib.ListN.{get_or, length, length-append, take}
 use lib.Seq.{get_or_at}
 use lib.Dec.{ltb}
-use borrow.Author.Tests.{not-false}
 use Rattle.kinds.specs.Kinds.{in_family, kind_of}
 use Rattle.model.specs.Gate.{Gate, fanin}
 use Rattle.model.specs.Sharing.{taken, takes, total}
@@ -75,9 +74,9 @@ module _ (f : Family) (l : List ℕ) (v n : ℕ) (h : v < n) (t : takes f (gate_
       go (r, e) = rw (e, lists_next f l v t, length-append, length-append) (omega arith)
 
 -- the turn of a loop that meets a gate of the pass
-module _ (f : Family) (l : List ℕ) (v n : ℕ) (h : v < n) (t : Bool) (et : t ≡ takes f (gate_at l v)) (q : not t ≡ false) where
+module _ (f : Family) (l : List ℕ) (v n : ℕ) (h : v < n) (t : Bool) (et : t ≡ takes f (gate_at l v)) (q : t ≡ true) where
   pub met : takes f (gate_at l v) ≡ true
-  met = sym et ∙ not-false t q
+  met = sym et ∙ q
 
   pub met_here : (i : ℕ) → i ≡ length (lists_in f l v) → get_or (lists_in f l n) i [] ≡ ins_at l v
   met_here i e = rw e (list_here f l v n h met)

@@ -11,9 +11,9 @@ use lib.Dec.{eqb, ltb}
 use borrow.Author.Tests.{eq-eqb, le-ltb, lt-ltb, ne_eqb}
 use Rattle.laws.specs.Lists.{All}
 use Rattle.model.specs.Sharing.{once, times, uses}
-use Rattle.pairs.specs.Lists.{area_size, put_used, used_at}
+use Rattle.pairs.specs.Lists.{area_size, put_used, used_at, zeroed}
 use Rattle.uses.specs.Loading.{Marked, SameLists}
-use Rattle.uses.specs.Uses.{Named, bump, is_once, tally, tally_all, use_at, use_ix, use_room, zeroed}
+use Rattle.uses.specs.Uses.{Named, bump, is_once, tally, tally_all, use_at, use_ix, use_room}
 use Rattle.laws.proofs.Choices.{by_bool, by_test}
 use Rattle.pairs.proofs.Places.{left_at_put_used, length_put_used, sig_at_put_used, start_at_put_used, used_at_put_used, used_at_put_used_other}
 

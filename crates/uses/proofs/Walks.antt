@@ -1,7 +1,7 @@
 -- Laws of the loops that count uses.
 use Prim.Native.Nat.{suc, zero, ℕ, ◌+◌, ◌<◌, ◌≤◌}
 use mathlib.Core.Path.{ap, refl, sym, ◌∙◌, ◌≡◌}
-use mathlib.Core.Bool.{Bool, false, not, true}
+use mathlib.Core.Bool.{Bool, false, true}
 use mathlib.Core.List.{List, [], ◌++◌, ◌∷◌}
 use native.Mathlib.Omega.{arith}
 use native.Mathlib.Nat.{le_refl}
@@ -9,13 +9,12 @@ use native.Mathlib.Numerals.{add-one}
 use mir.Syntax.{w64}
 use mir.Val.{Fits}
 use lib.ListN.{length}
-use borrow.Author.Tests.{not-false, not-true}
 use Rattle.laws.specs.Lists.{All, tab}
 use Rattle.model.specs.Sharing.{takes}
-use Rattle.pairs.specs.Lists.{area_size, put_used}
+use Rattle.pairs.specs.Lists.{area_size, zeroed}
 use Rattle.tables.specs.Layout.{count_at, first_at, gate_at, input_at, ins_at}
 use Rattle.uses.specs.Loading.{Between, Counting, Marked, Node, Source, lists_in}
-use Rattle.uses.specs.Uses.{Named, bump, tally, tally_all, use_room, zeroed}
+use Rattle.uses.specs.Uses.{Named, bump, tally, tally_all, use_room}
 use Rattle.laws.proofs.Choices.{by_bool}
 use Rattle.laws.proofs.Lists.{all_append, all_of}
 use Rattle.laws.proofs.Tabs.{get_or_tab, length_tab}
@@ -58,14 +57,8 @@ module _ (l : List ℕ) (v : ℕ) (N : Node l v) where
     pub node_named : (s : ℕ) → s ≡ input_at l (f + j) → Named s
     node_named s e = rw (e, ef) (N.names j (omega arith))
 
-    pub node_more : Fits w64 (j + 1)
-    node_more = record { fits = omega (arith, N.ends) }
-
 pub source_few : (l : List ℕ) (n v : ℕ) → Source l n → v < n → v < 512
 source_few l n v S h = omega (arith, S.few)
-
-pub source_more : (l : List ℕ) (n v : ℕ) → Source l n → v < n → Fits w64 (v + 1)
-source_more l n v S h = record { fits = omega (arith, S.few) }
 
 pub source_named : (f : Family) (l : List ℕ) (n : ℕ) → Source l n → (v : ℕ) → v ≤ n → All (All Named) (lists_in f l v)
 source_named f l n S zero h = rw (lists_none f l) tt
@@ -109,7 +102,7 @@ module _ (from l₀ l : List ℕ) (v j : ℕ) (inv : Tallied from l₀ l v j) wh
       let e : j ≡ count_at from v = omega arith in
       inv.words ∙ ap (tally l₀) (ap (ahead from v) e ∙ ahead_all from v)
 
-pub ruleset gate_counts = (node_place, node_fits, node_named, node_more, gate_start, gate_long, gate_step, gate_end)
+pub ruleset gate_counts = (node_place, node_fits, node_named, gate_start, gate_long, gate_step, gate_end)
 
 -- ---- count_uses
 
@@ -135,51 +128,26 @@ module _ (f : Family) (from l₀ l : List ℕ) (n v : ℕ) (inv : Tallies f from
     pub uses_few : v < 512
     uses_few = source_few from n v b.source h
 
-    pub uses_more : Fits w64 (v + 1)
-    uses_more = source_more from n v b.source h
-
     pub uses_gate : Counting from l v
     uses_gate = record { node = b.source.nodes v h; long = omega (arith, b.long, inv.same) }
 
   module _ (t : Bool) (et : t ≡ takes f (gate_at from v)) where
-    pub uses_skip : not t ≡ true → Tallies f from l₀ l n (v + 1)
+    pub uses_skip : t ≡ false → Tallies f from l₀ l n (v + 1)
     uses_skip q =
-        let z : takes f (gate_at from v) ≡ false = sym et ∙ not-true t q in
+        let z : takes f (gate_at from v) ≡ false = sym et ∙ q in
         record { upto = omega arith; same = inv.same; words = rw (add-one v, lists_skip f from v z) inv.words }
 
-    pub uses_next : not t ≡ false → (m : List ℕ) → m ≡ tally l (ins_at from v) → length m ≡ length l → Tallies f from l₀ m n (v + 1)
+    pub uses_next : t ≡ true → (m : List ℕ) → m ≡ tally l (ins_at from v) → length m ≡ length l → Tallies f from l₀ m n (v + 1)
     uses_next q m em len =
-        let z : takes f (gate_at from v) ≡ true = sym et ∙ not-false t q in
+        let z : takes f (gate_at from v) ≡ true = sym et ∙ q in
         record { upto = omega arith; same = len ∙ inv.same; words = rw (add-one v, lists_next f from v z, tally_all_snoc, ← inv.words) em }
 
 pub uses_end : (f : Family) (from l₀ l : List ℕ) (n v : ℕ) → Tallies f from l₀ l n v → n ≤ v → l ≡ tally_all l₀ (lists_in f from n)
 uses_end f from l₀ l n v inv h = let a = inv.upto in let e : v ≡ n = omega arith in inv.words ∙ ap (λ k. tally_all l₀ (lists_in f from k)) e
 
-pub ruleset uses_counts = (uses_start, uses_few, uses_more, uses_gate, uses_skip, uses_next, uses_end)
+pub ruleset uses_counts = (uses_start, uses_few, uses_gate, uses_skip, uses_next, uses_end)
 
--- ---- clear_uses, count_signal_usage
-
-pub record Cleared (l₀ l : List ℕ) (i : ℕ) : Type 0 where
-  pub upto : i ≤ use_room
-  pub same : length l ≡ length l₀
-  pub words : l ≡ zeroed l₀ i
-
-pub clear_start : (l : List ℕ) → Cleared l l 0
-unfolding zeroed
-clear_start l = record { upto = omega arith; same = refl; words = refl }
-
-module _ (l₀ l : List ℕ) (i : ℕ) (inv : Cleared l₀ l i) where
-  pub clear_step : (m : List ℕ) → i < use_room → m ≡ put_used l i 0 → length m ≡ length l → Cleared l₀ m (i + 1)
-  unfolding zeroed
-  clear_step m h em len = record { upto = omega arith; same = len ∙ inv.same; words = rw (add-one i, ← inv.words) em }
-
-  pub clear_end : use_room ≤ i → l ≡ zeroed l₀ use_room
-  clear_end h = let a = inv.upto in let e : i ≡ use_room = omega arith in inv.words ∙ ap (zeroed l₀) e
-
-pub clear_long : (l₀ l : List ℕ) (i : ℕ) → Cleared l₀ l i → area_size ≤ length l₀ → area_size ≤ length l
-clear_long l₀ l i inv z = omega (arith, inv.same)
-
-pub ruleset clears = (clear_start, clear_step, clear_end, clear_long)
+-- ---- count_signal_usage
 
 pub between_same : (from l m : List ℕ) (n : ℕ) → Between from l n → length m ≡ length l → Between from m n
 between_same from l m n b e = record { source = b.source; long = omega (arith, b.long) }

@@ -1,5 +1,5 @@
 -- A table of uses: a word for each signal that may be named, 0, 1, or 2 for more.
-use Rattle.std.specs.Prelude.{suc, zero, ℕ, ◌+◌, ◌-◌, ◌<◌, ◌≤◌, ◌⊎◌, Bool, cond, not, List, [], ◌∷◌, eqb, ltb}
+use Rattle.std.specs.Prelude.{ℕ, ◌+◌, ◌-◌, ◌<◌, ◌≤◌, ◌⊎◌, Bool, cond, not, List, [], ◌∷◌, eqb, ltb}
 use Rattle.pairs.specs.Lists.{put_used, used_at}
 
 -- nodes in front, then inputs
@@ -28,11 +28,6 @@ tally l (x ∷ m) = tally (bump l x) m
 unfoldable pub tally_all : List ℕ → List (List ℕ) → List ℕ
 tally_all l [] = l
 tally_all l (m ∷ gs) = tally_all (tally l m) gs
-
--- l with the first k words of the table zero
-unfoldable pub zeroed : List ℕ → ℕ → List ℕ
-zeroed l zero = l
-zeroed l (suc k) = put_used (zeroed l k) k 0
 
 unfoldable pub is_once : List ℕ → ℕ → Bool
 is_once l s = eqb (use_at l s) 1

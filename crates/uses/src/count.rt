@@ -2,13 +2,13 @@
 ghost use Rattle.std.specs.Prelude.{◌≡◌, ◌<◌, ◌≤◌, length};
 ghost use Rattle.model.specs.Sharing.{takes};
 ghost use Rattle.tables.specs.Layout.{net_size, ins_at, gate_at};
-ghost use Rattle.pairs.specs.Lists.{area_size};
-ghost use Rattle.uses.specs.Uses.{use_ix, use_room, Named, bump, tally, tally_all, zeroed, is_once};
+ghost use Rattle.pairs.specs.Lists.{area_size, zeroed};
+ghost use Rattle.uses.specs.Uses.{use_ix, use_room, Named, bump, tally, tally_all, is_once};
 ghost use Rattle.uses.specs.Loading.{Counting, Between, lists_in, Marked};
 
 use kinds::{Family, in_family, kind_of};
-use pairs::lists::{put_used, used_at};
-use tables::layout::{count_at, first_at, input_at, kind_at, wide};
+use pairs::lists::{clear_used, put_used, used_at};
+use tables::layout::{count_at, first_at, input_at, kind_at};
 
 // The words of the table.
 const USES: usize = 3074;
@@ -27,9 +27,9 @@ fn use_ix(s: u32) -> usize
     ensures { (result ≡ use_ix s) × (result < use_room) }
 {
     if s < 0x8000_0000 {
-        return wide(s);
+        return s as usize;
     }
-    1026 + wide(0xFFFF_FFFF - s)
+    1026 + (0xFFFF_FFFF - s) as usize
 }
 
 // One more use of s; two stand for more.
@@ -59,10 +59,8 @@ fn count_gate(from: &[u32], to: &mut [u32], v: usize)
 {
     let f = first_at(from, v);
     let n = count_at(from, v);
-    let mut j: usize = 0;
-    while j < n {
+    for j in 0..n {
         note_use(to, input_at(from, f + j));
-        j += 1;
     }
 }
 
@@ -71,14 +69,10 @@ fn count_uses(from: &[u32], to: &mut [u32], n: usize, f: Family)
     requires { Between from.now to.old n }
     ensures { to.new ≡ tally_all to.old (lists_in f from.now n) }
 {
-    let mut v: usize = 0;
-    while v < n {
-        if !takes(from, f, v) {
-            v += 1;
-            continue;
+    for v in 0..n {
+        if takes(from, f, v) {
+            count_gate(from, to, v);
         }
-        count_gate(from, to, v);
-        v += 1;
     }
 }
 
@@ -86,11 +80,7 @@ fn clear_uses(to: &mut [u32])
     requires { area_size ≤ length to.old }
     ensures { to.new ≡ zeroed to.old use_room }
 {
-    let mut i: usize = 0;
-    while i < USES {
-        put_used(to, i, 0);
-        i += 1;
-    }
+    clear_used(to, USES);
 }
 
 // Counts the uses afresh: the table may hold anything, and what is behind it stays.

@@ -29,10 +29,8 @@ pub fn pick_signals(from: &[u32], to: &mut [u32], v: usize, at: usize, once: boo
     let f = first_at(from, v);
     let n = count_at(from, v);
     let mut w: usize = 0;
-    let mut j: usize = 0;
-    while j < n {
+    for j in 0..n {
         w += pick_one(to, at + w, input_at(from, f + j), once);
-        j += 1;
     }
     w
 }
@@ -54,16 +52,12 @@ pub fn separate_exclusive_signals(from: &[u32], to: &mut [u32], n: usize, f: Fam
 {
     let mut i: usize = 0;
     let mut at: usize = 0;
-    let mut v: usize = 0;
-    while v < n {
-        if !takes(from, f, v) {
-            v += 1;
-            continue;
+    for v in 0..n {
+        if takes(from, f, v) {
+            load_gate(from, to, v, i, at);
+            at += count_at(from, v);
+            i += 1;
         }
-        load_gate(from, to, v, i, at);
-        at += count_at(from, v);
-        i += 1;
-        v += 1;
     }
     i
 }
@@ -73,10 +67,7 @@ fn places_of(m: usize) -> usize
     requires { m ≤ 2048 }
     ensures { (result ≡ m * (m - 1) / 2) × (result ≤ 4194304) }
 {
-    if m == 0 {
-        return 0;
-    }
-    m * (m - 1) / 2
+    m * m.saturating_sub(1) / 2
 }
 
 // The pair places of the first g lists.
@@ -85,10 +76,8 @@ pub fn pair_places(to: &[u32], g: usize) -> usize
     ensures { result ≡ places_of (lists_of to.now g) }
 {
     let mut t: usize = 0;
-    let mut i: usize = 0;
-    while i < g {
+    for i in 0..g {
         t += places_of(left_at(to, i));
-        i += 1;
     }
     t
 }

@@ -3,20 +3,16 @@ use mathlib.Core.Path.{◌≡◌, ap, ◌∙◌}
 use Prim.Native.Nat.{ℕ, ◌+◌}
 use native.Mathlib.Omega.{arith}
 use native.Mathlib.Decide.{ℕ_discrete}
-use mathlib.Core.Bool.{Bool, true, not, ◌&&◌}
+use mathlib.Core.Bool.{Bool, not, ◌&&◌}
 use mathlib.Core.List.{List}
 use lib.Dec.{eqb, ltb}
 use lib.Bits.{bit_and, bit_xor}
-use borrow.Author.Tests.{ne_eqb, eqb-true, lt-ltb}
-use Rattle.kinds.specs.declared.Kind.{Kind}
-use Rattle.kinds.specs.declared.Kind.TheVariants.{And2, Xor2, OrN, Buf}
+use borrow.Author.Tests.{ne_eqb, lt-ltb}
 use Rattle.laws.specs.Bools.{xor, bit}
 use Rattle.laws.proofs.Bools.{taut1, taut2}
 use Rattle.model.specs.Signal.{is_inverted}
-use Rattle.model.specs.Gate.{fits_kind}
 use Rattle.tables.specs.Layout.{input_at}
-use Rattle.signal_values.specs.Signals.{is_odd, value_at, input_value, ones_to, Reads}
-use Rattle.values.specs.Values.{ones_value}
+use Rattle.signal_values.specs.Signals.{is_odd, value_at, input_value, ones_to}
 use Rattle.signal_values.proofs.Bits.{mask_odd, parity, parity_and}
 use Rattle.signal_values.proofs.Turns.{input_is, input_first}
 
@@ -46,40 +42,8 @@ module _ (f t : List ℕ) (first : ℕ) where
   pub odd_is : (n count : ℕ) → n ≡ ones_to (input_value f t first) count → eqb (bit_and n 1) 1 ≡ is_odd (ones_to (input_value f t first) count)
   odd_is n count e = mask_odd n ∙ ap is_odd e
 
-  -- ---- by kind: as many inputs as the kind has
+-- not all are zero
+pub or_is : (n : ℕ) (a : Bool) → a ≡ eqb n 0 → not a ≡ ltb 0 n
+or_is n a q = rw q (elim (ℕ_discrete n 0) [ yes d ↦ rw d | no d ↦ rw (ne_eqb n 0 d, lt-ltb 0 n (omega arith)) ])
 
-  module _ (k : Kind) (count : ℕ) (h : fits_kind k count ≡ true) where
-    and_2_count : k ≡ And2 → count ≡ 2
-    and_2_count e = eqb-true count 2 (rw e at h)
-
-    xor_2_count : k ≡ Xor2 → count ≡ 2
-    xor_2_count e = eqb-true count 2 (rw e at h)
-
-    buf_count : k ≡ Buf → count ≡ 1
-    buf_count e = eqb-true count 1 (rw e at h)
-
-    pub and_2_reads : Reads f t first count → k ≡ And2 → Reads f t first 2
-    and_2_reads r e = rw (← and_2_count e) r
-
-    pub xor_2_reads : Reads f t first count → k ≡ Xor2 → Reads f t first 2
-    xor_2_reads r e = rw (← xor_2_count e) r
-
-    pub buf_reads : Reads f t first count → k ≡ Buf → Reads f t first 1
-    buf_reads r e = rw (← buf_count e) r
-
-    pub and_2_value : (r : Bool) → k ≡ And2 → r ≡ eqb (ones_to (input_value f t first) 2) 2 → r ≡ ones_value k count (ones_to (input_value f t first) count)
-    and_2_value r e q = rw (and_2_count e, e) q
-
-    pub xor_2_value : (r : Bool) → k ≡ Xor2 → r ≡ is_odd (ones_to (input_value f t first) 2) → r ≡ ones_value k count (ones_to (input_value f t first) count)
-    xor_2_value r e q = rw (xor_2_count e, e) q
-
-    pub buf_value : (r : Bool) → k ≡ Buf → r ≡ ltb 0 (ones_to (input_value f t first) 1) → r ≡ ones_value k count (ones_to (input_value f t first) count)
-    buf_value r e q = rw (buf_count e, e) q
-
-pub same_kind : (k l : Kind) (count n : ℕ) (a : Bool) → k ≡ l → a ≡ ones_value l count n → a ≡ ones_value k count n
-same_kind k l count n a e q = rw e q
-
-pub or_value : (k : Kind) (count n : ℕ) (a : Bool) → k ≡ OrN → a ≡ eqb n 0 → not a ≡ ones_value k count n
-or_value k count n a e q = rw (e, q) (elim (ℕ_discrete n 0) [ yes d ↦ rw d | no d ↦ rw (ne_eqb n 0 d, lt-ltb 0 n (omega arith)) ])
-
-pub ruleset decides = (buf_is, and_2_is, xor_2_is, odd_is, and_2_reads, xor_2_reads, buf_reads, and_2_value, xor_2_value, buf_value, or_value)
+pub ruleset decides = (buf_is, and_2_is, xor_2_is, odd_is)

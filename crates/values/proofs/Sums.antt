@@ -1,6 +1,5 @@
 -- A gate's value by the number of its inputs that are one.
 use mathlib.Core.Path.{◌≡◌, refl, sym, ap, ◌∙◌}
-use mathlib.Core.Logic.{◌≢◌}
 use Prim.Native.Nat.{ℕ, zero, suc, ◌+◌, ◌%◌, ◌≤◌}
 use native.Mathlib.Omega.{arith}
 use native.Mathlib.Decide.{ℕ_discrete}
@@ -40,6 +39,9 @@ odd_snoc [] b = xor_false b
 odd_snoc (a ∷ l) b = ap (xor a) (odd_snoc l b) ∙ sym (xor_assoc a (odd_of l) b)
 
 -- ---- by the number of ones
+
+abbrev pub goes_by_ones : Kind → Bool
+goes_by_ones k = not (eqb (code_of k) 5 || eqb (code_of k) 14)
 
 and_false : (b : Bool) → b && false ≡ false
 and_false true = refl
@@ -99,23 +101,23 @@ module _ (g : ℕ → Bool) where
   single n e = rw (eqb-true n 1 e) (taut1 (λ a. a) (λ a. ltb 0 (0 + bit a)) tt (g 0))
 
   -- every kind but Mux and Lut
-  pub ones_value_lem : (k : Kind) (n t : ℕ) → code_of k ≢ 5 → code_of k ≢ 14 → fits_kind k n ≡ true → value_of k (tab g n) t ≡ ones_value k n (ones_to g n)
+  pub ones_value_lem : (k : Kind) (n t : ℕ) → goes_by_ones k ≡ true → fits_kind k n ≡ true → value_of k (tab g n) t ≡ ones_value k n (ones_to g n)
   unfolding value_of
-  ones_value_lem And2 n t p q f = all_ones n
-  ones_value_lem Xor2 n t p q f = odd_ones n
-  ones_value_lem And3 n t p q f = all_ones n
-  ones_value_lem Xor3 n t p q f = odd_ones n
-  ones_value_lem Maj n t p q f = three n f
-  ones_value_lem Mux n t p q f = absurd (p refl)
-  ones_value_lem AndN n t p q f = all_ones n
-  ones_value_lem OrN n t p q f = any_ones n
-  ones_value_lem NandN n t p q f = ap not (all_ones n)
-  ones_value_lem NorN n t p q f = ap not (any_ones n) ∙ none (ones_to g n)
+  ones_value_lem And2 n t p f = all_ones n
+  ones_value_lem Xor2 n t p f = odd_ones n
+  ones_value_lem And3 n t p f = all_ones n
+  ones_value_lem Xor3 n t p f = odd_ones n
+  ones_value_lem Maj n t p f = three n f
+  ones_value_lem Mux n t p f = cc
+  ones_value_lem AndN n t p f = all_ones n
+  ones_value_lem OrN n t p f = any_ones n
+  ones_value_lem NandN n t p f = ap not (all_ones n)
+  ones_value_lem NorN n t p f = ap not (any_ones n) ∙ none (ones_to g n)
     where
       none : (k : ℕ) → not (ltb 0 k) ≡ eqb k 0
       none k = elim (ℕ_discrete k 0) [ yes e ↦ rw e | no e ↦ rw (lt-ltb 0 k (omega arith), ne_eqb k 0 e) ]
-  ones_value_lem XorN n t p q f = odd_ones n
-  ones_value_lem XnorN n t p q f = ap not (odd_ones n)
-  ones_value_lem Buf n t p q f = single n f
-  ones_value_lem Dff n t p q f = refl
-  ones_value_lem Lut n t p q f = absurd (q refl)
+  ones_value_lem XorN n t p f = odd_ones n
+  ones_value_lem XnorN n t p f = ap not (odd_ones n)
+  ones_value_lem Buf n t p f = single n f
+  ones_value_lem Dff n t p f = refl
+  ones_value_lem Lut n t p f = cc

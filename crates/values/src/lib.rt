@@ -2,13 +2,12 @@
 #![tactic(auto)]
 
 ghost use Rattle.std.specs.Prelude.{◌≡◌, true, ◌+◌, ◌<◌, eqb, ltb, length};
-ghost use Rattle.model.specs.Gate.{fits_kind};
 ghost use Rattle.signal_values.specs.Signals.{is_odd, input_value, ones_to, Reads, Gated};
-ghost use Rattle.values.specs.Values.{ones_value, gate_value_at, shown_at};
+ghost use Rattle.values.specs.Values.{gate_value_at, shown_at};
 
-use kinds::{Kind, code, kind_of};
+use kinds::{Kind, kind_of};
 use mux_and_lut::{lut, mux};
-use signal_values::{all_are, is_dff, one_if, ones, value_word};
+use signal_values::{all_are, is_dff, ones, value_word};
 use tables::layout::{count_at, first_at, input_at, kind_at};
 
 // The short gates, without a loop.
@@ -45,45 +44,29 @@ fn odd(from: &[u32], to: &[u32], first: usize, count: usize) -> bool
     ones(from, to, first, count) & 1 == 1
 }
 
-// By the number of the inputs that are one, where that is all that matters; an And or an Or goes no further than the input that
-// decides.
-fn by_ones(from: &[u32], to: &[u32], k: Kind, first: usize, count: usize) -> u32
-    requires { Reads from.now to.now first count × (fits_kind k count ≡ true) }
-    ensures { is_odd result ≡ ones_value k count (ones_to (input_value from.now to.now first) count) }
-{
-    match k {
-        Kind::And2 => and_2(from, to, first),
-        Kind::Xor2 => xor_2(from, to, first),
-        Kind::And3 => one_if(all_are(from, to, first, count, true)),
-        Kind::Xor3 => one_if(odd(from, to, first, count)),
-        Kind::Maj => one_if(1 < ones(from, to, first, count)),
-        Kind::Mux => 0,
-        Kind::AndN => one_if(all_are(from, to, first, count, true)),
-        Kind::OrN => one_if(!all_are(from, to, first, count, false)),
-        Kind::NandN => one_if(!all_are(from, to, first, count, true)),
-        Kind::NorN => one_if(all_are(from, to, first, count, false)),
-        Kind::XorN => one_if(odd(from, to, first, count)),
-        Kind::XnorN => one_if(!odd(from, to, first, count)),
-        Kind::Buf => buf(from, to, first),
-        Kind::Dff => 0,
-        Kind::Lut => 0,
-    }
-}
-
+// The gate of node v, in a word's lowest bit. Where the number of the inputs that are one is all that matters, an And or an Or goes no
+// further than the input that decides.
 fn gate_word(from: &[u32], to: &[u32], v: usize) -> u32
     requires { Gated from.now to.now v }
     ensures { is_odd result ≡ gate_value_at from.now to.now v }
 {
     let first = first_at(from, v);
     let count = count_at(from, v);
-    let c = kind_at(from, v);
-    if c == code(Kind::Mux) {
-        return one_if(mux(from, to, first));
+    match kind_of(kind_at(from, v)) {
+        Kind::And2 => and_2(from, to, first),
+        Kind::Xor2 => xor_2(from, to, first),
+        Kind::And3 | Kind::AndN => u32::from(all_are(from, to, first, count, true)),
+        Kind::NandN => u32::from(!all_are(from, to, first, count, true)),
+        Kind::OrN => u32::from(!all_are(from, to, first, count, false)),
+        Kind::NorN => u32::from(all_are(from, to, first, count, false)),
+        Kind::Xor3 | Kind::XorN => u32::from(odd(from, to, first, count)),
+        Kind::XnorN => u32::from(!odd(from, to, first, count)),
+        Kind::Maj => u32::from(1 < ones(from, to, first, count)),
+        Kind::Mux => u32::from(mux(from, to, first)),
+        Kind::Buf => buf(from, to, first),
+        Kind::Dff => 0,
+        Kind::Lut => u32::from(lut(from, to, v, first, count)),
     }
-    if c == code(Kind::Lut) {
-        return one_if(lut(from, to, v, first, count));
-    }
-    by_ones(from, to, kind_of(c), first, count)
 }
 
 // What node v shows, in a word's lowest bit: a flip-flop its state, any other gate its value.
@@ -92,7 +75,7 @@ pub fn node_word(from: &[u32], to: &[u32], state: &[u8], v: usize) -> u32
     ensures { is_odd result ≡ shown_at from.now to.now state.now v }
 {
     if is_dff(from, v) {
-        return one_if(state[v] == 1);
+        return u32::from(state[v] == 1);
     }
     gate_word(from, to, v)
 }

@@ -11,6 +11,7 @@ use lib.ListN.{length, get_or, take, drop}
 use lib.Seq.{drop-cons}
 use lib.Dec.{leb, ltb}
 use borrow.Author.Tests.{ltb-true, ltb-false, lt-ltb, le-ltb, not-true, not-false}
+use Rattle.std.specs.Prelude.{max}
 use Rattle.laws.proofs.Bools.{and_assoc}
 use Rattle.kinds.specs.Kinds.{kind_of, is_flip_flop}
 use Rattle.kinds.specs.declared.Kind.{Kind}
@@ -61,7 +62,11 @@ pub ruleset signs = (high_input, reach_low, reach_input, reach_absent)
 
 -- ---- the greatest of two
 
-pub ruleset mosts = (most_le, most_gt)
+most_max : (a b : ℕ) → max a b ≡ most a b
+most_max a b = elim (dec_le a b) [
+  | yes h ↦ rw (← most_le a b h) (omega arith)
+  | no h ↦ rw (← most_gt a b (omega arith)) (omega arith)
+]
 
 zero_most : (a : ℕ) → a ≡ most 0 a
 zero_most a = most_le 0 a (omega arith)
@@ -89,25 +94,30 @@ part_cons : (k : ℕ) (ws : List ℕ) (at s : ℕ) → 0 < k → at < length ws 
 part_cons zero ws at s p l e = absurd (omega arith)
 part_cons (suc k) ws at s p l e = rw (drop-cons ws at 0, ← e, sub-one, add-one)
 
-pub list_start : (l : List ℕ) (i k at : ℕ) → reach_from i k (words l) at ≡ most 0 (reach_from i k (words l) at)
-list_start l i k at = zero_most (reach_from i k (words l) at)
+pub list_start : (l : List ℕ) (i k from : ℕ) → reach_from i k (words l) from ≡ most 0 (reach_from i (from + k - from) (words l) from)
+list_start l i k from =
+    let e : k ≡ from + k - from = omega arith in
+    zero_most (reach_from i k (words l) from) ∙ ap (λ (j : ℕ). most 0 (reach_from i j (words l) from)) e
 
 -- the loop of `reach`: its invariant is x ≡ most top (the reach of what is left)
-module _ (l : List ℕ) (i x top k at : ℕ) (inv : x ≡ most top (reach_from i k (words l) at)) where
-  pub list_done : k ≤ 0 → top ≡ x
+module _ (l : List ℕ) (i x top end at : ℕ) (inv : x ≡ most top (reach_from i (end - at) (words l) at)) where
+  pub list_done : end ≤ at → top ≡ x
   unfolding reach_from reach_all
   list_done z =
-      let e : k ≡ 0 = omega arith in
+      let e : end - at ≡ 0 = omega arith in
       sym (inv ∙ ap (λ (j : ℕ). most top (reach_from i j (words l) at)) e ∙ most_zero top)
 
-  pub list_step : 0 < k → (from count : ℕ) → at + k ≡ from + count → from + count ≤ length l / 4
-      → (s : ℕ) → s ≡ get_or (words l) at 0 → (r : ℕ) → r ≡ reach_of i s → (m : ℕ) → m ≡ most top r
-      → x ≡ most m (reach_from i (k - 1) (words l) (at + 1))
+  pub list_step : at < end → end ≤ length l / 4 → (s : ℕ) → s ≡ get_or (words l) at 0 → (r : ℕ) → r ≡ reach_of i s
+      → x ≡ most (max top r) (reach_from i (end - (at + 1)) (words l) (at + 1))
   unfolding reach_from reach_all
-  list_step p from count q f s e r z m o =
+  list_step p f s e r z =
       let w : at < length (words l) = omega (arith, length_words l) in
-      let rest = reach_all i (take (k - 1) (drop (at + 1) (words l))) in
-      inv ∙ simp (part_cons k (words l) at s p w e, ← z) (most_most top r rest) ∙ ap (λ (y : ℕ). most y rest) (sym o)
+      let k : end - at - 1 ≡ end - (at + 1) = omega arith in
+      let rest = reach_all i (take (end - at - 1) (drop (at + 1) (words l))) in
+      inv
+      ∙ simp (part_cons (end - at) (words l) at s (omega arith) w e, ← z) (most_most top r rest)
+      ∙ ap (λ (y : ℕ). most y rest) (sym (most_max top r))
+      ∙ ap (λ (j : ℕ). most (max top r) (reach_all i (take j (drop (at + 1) (words l))))) k
 
 pub ruleset lists = (list_start, list_done, list_step)
 

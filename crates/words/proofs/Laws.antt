@@ -1,13 +1,14 @@
 -- Laws of a word stored in bytes.
-use mathlib.Core.Path.{◌≡◌, ◌∙◌, subst}
+use mathlib.Core.Path.{◌≡◌, ap, ◌∙◌, subst}
 use mathlib.Core.Logic.{◌⊎◌, inl, inr, ⊎_elim, ◌≢◌}
-use mathlib.Core.List.{List, ◌++◌, append_assoc}
-use Prim.Native.Nat.{ℕ, ◌+◌, ◌≤◌, ◌<◌}
+use mathlib.Core.List.{List, [], ◌∷◌, ◌++◌, append_assoc}
+use Prim.Native.Nat.{ℕ, ◌+◌, ◌-◌, ◌/◌, ◌%◌, ◌≤◌, ◌<◌}
 use native.Mathlib.Omega.{arith}
 use native.Mathlib.Numerals.{add-one, add-two, add-three}
 use native.Mathlib.Nat.{add-zero}
 use lib.ListN.{length, take, drop, get_or, length-set}
-use lib.Seq.{get_or-set_other, length-take-le, sets-eq}
+use lib.Seq.{drop-drop, get_or-set_other, length-take-le, sets-eq}
+use borrow.Rule.Slice.PartMut.{put_mid}
 use Rattle.model.specs.Image.{word_at, le_word}
 use Rattle.model.proofs.Bytes.{le4_le_word, word_at_append}
 use Rattle.words.specs.Stores.{put_word}
@@ -15,6 +16,14 @@ use Rattle.words.specs.Stores.{put_word}
 pub put_word_list : (b : List ℕ) (at w : ℕ) → at + 4 ≤ length b → put_word b at w ≡ take at b ++ (le_word w ++ drop (at + 4) b)
 unfolding put_word
 put_word_list b at w h = simp (add-one, add-two, add-three) (sets-eq (le_word w) b at h ∙ append_assoc (take at b) (le_word w) (drop (at + 4) b))
+
+-- four bytes copied over those from `at` on
+pub put_word_part : (b ys : List ℕ) (at w : ℕ) → at + 4 ≤ length b → w < 4294967296 → ys ≡ w % 256 ∷ w / 256 % 256 ∷ w / 65536 % 256 ∷ w / 16777216 % 256 ∷ []
+    → put_mid at (at + 4 - at) b ys ≡ put_word b at w
+put_word_part b ys at w h r e =
+    let n : at + 4 - at ≡ 4 = omega arith in
+    let t : w / 16777216 % 256 ≡ w / 16777216 = omega arith in
+    rw (n, put_word_list b at w h, e, t) (ap (λ l. take at b ++ (le_word w ++ l)) (drop-drop 4 at b))
 
 pub length_put_word : (b : List ℕ) (at w : ℕ) → length (put_word b at w) ≡ length b
 unfolding put_word

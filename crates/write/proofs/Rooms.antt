@@ -7,7 +7,7 @@ use native.Mathlib.Omega.{arith}
 use lib.ListN.{length}
 use lib.Dec.{leb}
 use borrow.Author.Tests.{le-leb, lt-leb}
-use Rattle.answers.specs.declared.Answer.TheVariants.{Accepted, Refused}
+use Rattle.std.specs.Prelude.{Ok, Err}
 use Rattle.laws.proofs.Tabs.{length_tab}
 use Rattle.model.specs.Image.{net_words, image_of}
 use Rattle.model.specs.Answers.{written, laid_over, in_room}
@@ -23,11 +23,11 @@ pub mapped_room : (l : List ℕ) (c : Counts) (old : ℕ) (map : List ℕ) → H
 mapped_room l c old map M k = record { inside = M.inside; room = k }
 
 module _ (l : List ℕ) (c : Counts) (out : List ℕ) (n : ℕ) (e : n ≡ length (image_of (network_of l c))) where
-  pub write_short : length out < n → Answered (in_room (length out) 0 (written (image_of (network_of l c)) [])) out (Refused 13) out
+  pub write_short : length out < n → Answered (in_room (length out) 0 (written (image_of (network_of l c)) [])) out (Err 13) out
   write_short h = let z = lt-leb (length (image_of (network_of l c))) (length out) (rw (← e) h) in record { answer = rw z; result = rw z }
 
   pub write_done : n ≤ length out → (out' : List ℕ) → out' ≡ laid_over (image_of (network_of l c)) out
-      → Answered (in_room (length out) 0 (written (image_of (network_of l c)) [])) out (Accepted n) out'
+      → Answered (in_room (length out) 0 (written (image_of (network_of l c)) [])) out (Ok n) out'
   write_done h out' q = let z = le-leb (length (image_of (network_of l c))) (length out) (rw (← e) h) in record { answer = rw (z, e); result = rw z q }
 
   pub write_room : Held l c → n ≤ length out → Room l c (net_words (network_of l c)) out
@@ -41,7 +41,7 @@ module _ (l : List ℕ) (c : Counts) (out : List ℕ) (n : ℕ) (e : n ≡ lengt
     length_mapping = length_tab (cell l tr_base) old
 
     pub mapped_short : length out < n
-        → Answered2 (in_room (length out) (length map) (written (image_of (network_of l c)) (mapping_in l old))) out map (Refused 13) out map
+        → Answered2 (in_room (length out) (length map) (written (image_of (network_of l c)) (mapping_in l old))) out map (Err 13) out map
     mapped_short h =
         let z = lt-leb (length (image_of (network_of l c))) (length out) (rw (← e) h) in
         record { first = record { answer = rw z; result = rw z }; second_is = rw z }
@@ -51,13 +51,13 @@ module _ (l : List ℕ) (c : Counts) (out : List ℕ) (n : ℕ) (e : n ≡ lengt
       fits = le-leb (length (image_of (network_of l c))) (length out) (rw (← e) h)
 
       pub map_short : length map < old
-          → Answered2 (in_room (length out) (length map) (written (image_of (network_of l c)) (mapping_in l old))) out map (Refused 13) out map
+          → Answered2 (in_room (length out) (length map) (written (image_of (network_of l c)) (mapping_in l old))) out map (Err 13) out map
       map_short k =
           let z = lt-leb (length (mapping_in l old)) (length map) (rw length_mapping k) in
           record { first = record { answer = rw (fits, z); result = rw (fits, z) }; second_is = rw (fits, z) }
 
       pub mapped_done : old ≤ length map → (out' map' : List ℕ) → out' ≡ laid_over (image_of (network_of l c)) out → map' ≡ laid_over (mapping_in l old) map
-          → Answered2 (in_room (length out) (length map) (written (image_of (network_of l c)) (mapping_in l old))) out map (Accepted n) out' map'
+          → Answered2 (in_room (length out) (length map) (written (image_of (network_of l c)) (mapping_in l old))) out map (Ok n) out' map'
       mapped_done k out' map' p q =
           let z = le-leb (length (mapping_in l old)) (length map) (rw length_mapping k) in
           record { first = record { answer = rw (fits, z, e); result = rw (fits, z) p }; second_is = rw (fits, z) q }

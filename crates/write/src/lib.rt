@@ -8,22 +8,24 @@ ghost use Rattle.tables.specs.Holding.{network_of, Held};
 ghost use Rattle.tables.specs.Working.{Answered, Answered2};
 ghost use Rattle.write_image.specs.Writing.{mapping_in};
 ghost use Rattle.write.specs.Mapping.{HeldMapped};
+ghost use Rattle.refusals.specs.Numbers.{numbered};
 
 use answers::Answer;
+use refusals::Refusal;
 use tables::counts::Counts;
 use write_image::{image_len, write_image, write_mapping};
 
 // The image of the network in an area.
 pub fn write(from: &[u32], counts: Counts, out: &mut [u8]) -> Answer
     requires { Held from.now counts }
-    ensures { Answered (in_room (length out.old) 0 (written (image_of (network_of from.now counts)) [])) out.old result out.new }
+    ensures { Answered (in_room (length out.old) 0 (written (image_of (network_of from.now counts)) [])) out.old (numbered result) out.new }
 {
     let len = image_len(from, counts);
     if out.len() < len {
-        return Answer::Refused(13);
+        return Err(Refusal::Room);
     }
     write_image(from, counts, out);
-    Answer::Accepted(len)
+    Ok(len)
 }
 
 // The same with the mapping of so many old nodes: both lengths are looked at before either is written.
@@ -35,16 +37,16 @@ pub fn write_mapped(
     map: &mut [u32],
 ) -> Answer
     requires { HeldMapped from.now counts old }
-    ensures { Answered2 (in_room (length out.old) (length map.old) (written (image_of (network_of from.now counts)) (mapping_in from.now old))) out.old map.old result out.new map.new }
+    ensures { Answered2 (in_room (length out.old) (length map.old) (written (image_of (network_of from.now counts)) (mapping_in from.now old))) out.old map.old (numbered result) out.new map.new }
 {
     let len = image_len(from, counts);
     if out.len() < len {
-        return Answer::Refused(13);
+        return Err(Refusal::Room);
     }
     if map.len() < old {
-        return Answer::Refused(13);
+        return Err(Refusal::Room);
     }
     write_image(from, counts, out);
     write_mapping(from, old, map);
-    Answer::Accepted(len)
+    Ok(len)
 }

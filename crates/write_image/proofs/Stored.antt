@@ -1,11 +1,10 @@
 -- Words stored one after the other in bytes.
 use mathlib.Core.Path.{◌≡◌, refl, sym, ap, ap₂, ◌∙◌}
 use mathlib.Core.List.{List, [], ◌∷◌, ◌++◌, append_assoc}
-use Prim.Native.Nat.{ℕ, suc, ◌+◌, ◌*◌, ◌≤◌, ◌<◌}
-use native.Mathlib.Numerals.{add-one}
+use Prim.Native.Nat.{ℕ, suc, ◌+◌, ◌*◌, ◌≤◌}
 use native.Mathlib.Omega.{arith}
-use lib.ListN.{length, get_or, set, take, drop, length-append, take-append-drop}
-use lib.Seq.{length-take-le, take_at, drop-append-add, drop-drop, drop-cons, set_at, append_snoc}
+use lib.ListN.{length, take, drop, length-append, take-append-drop}
+use lib.Seq.{length-take-le, take_at, drop-append-add, drop-drop}
 use Rattle.laws.specs.Lists.{tab}
 use Rattle.laws.proofs.Tabs.{length_tab}
 use Rattle.model.specs.Image.{le_word, bytes}
@@ -77,13 +76,3 @@ unfolding laid_over
 put_words_laid b ws h =
     let z : 0 + 4 * length ws ≡ length (bytes ws) = omega (arith, length_bytes ws) in
     put_words_list b 0 ws (omega arith) ∙ ap (λ (n : ℕ). bytes ws ++ drop n b) z
-
--- one more element laid over a buffer
-pub laid_none : (b : List ℕ) → b ≡ laid_over [] b
-unfolding laid_over
-laid_none b = refl
-
-pub laid_next : (xs b : List ℕ) (n x : ℕ) → length xs ≡ n → n < length b → set (laid_over xs b) n x ≡ laid_over (xs ++ (x ∷ [])) b
-unfolding laid_over
-laid_next xs b n x e h =
-    rw (e, length-append, e, drop-cons b n 0 h) (set_at xs (get_or b n 0) (drop (suc n) b) x n e ∙ sym (append_snoc xs x (drop (suc n) b)) ∙ rw add-one)

@@ -6,11 +6,12 @@ use Prim.Native.Nat.{ℕ, suc, ◌+◌, ◌-◌, ◌*◌, ◌^◌, ◌≤◌, �
 use native.Mathlib.Nat.{le_antisymm}
 use native.Mathlib.Omega.{arith}
 use native.Mathlib.Numerals.{add-one}
-use lib.ListN.{length, set, length-set, length-append}
+use lib.ListN.{length, take, drop, length-append, length-drop}
+use lib.Seq.{get_or-drop}
 use mir.Val.{Fits}
-use mir.Syntax.{w32, w64}
+use mir.Syntax.{w64}
 use Rattle.laws.specs.Lists.{tab}
-use Rattle.laws.proofs.Tabs.{length_tab}
+use Rattle.laws.proofs.Tabs.{tab_ext, length_tab, take_tab}
 use Rattle.model.specs.Image.{table_words, gate_words, gates_words, body_words, net_words, image_of}
 use Rattle.model.specs.Answers.{laid_over}
 use Rattle.model.proofs.Bytes.{length_bytes}
@@ -21,7 +22,7 @@ use Rattle.tables.specs.declared.counts.Counts.{Counts}
 use Rattle.tables.proofs.Holding.{length_nodes_of, inputs_few, nodes_few, outs_few, kind_known}
 use Rattle.image_trailer.specs.Trailers.{put_words, trailer_words, Trailer}
 use Rattle.write_image.specs.Writing.{ins_from, outs_from, mapping_in, Node, Inputs, Writes, Put, Room, Outputs, Mapped}
-use Rattle.write_image.proofs.Stored.{put_words_append, put_words_laid, put_none, put_more, put_next, laid_none, laid_next}
+use Rattle.write_image.proofs.Stored.{put_words_append, put_words_laid, put_none, put_more, put_next}
 use Rattle.write_image.proofs.Sizes.{table_plain, table_lut, length_table, record_words, length_record, words_none, words_next, length_next, length_within, length_image, words_few}
 
 -- ---- record_len and image_len
@@ -29,17 +30,7 @@ use Rattle.write_image.proofs.Sizes.{table_plain, table_lut, length_table, recor
 pub node_held : (l : List ℕ) (c : Counts) (v : ℕ) → Held l c → v < c.nodes → Node l v
 node_held l c v H h = record { long = H.long; few = omega (arith, nodes_few l c H); ends = H.ends v h; known = kind_known l c H v h }
 
--- what reading a node asks
-pub node_asked : (l : List ℕ) (v : ℕ) → Node l v → (v < 512) × (net_size ≤ length l)
-node_asked l v N = (N.few, N.long)
-
 module _ (l : List ℕ) (v n k : ℕ) (e : n ≡ count_at l v) (q : k ≡ kind_at l v) where
-  pub len_fits3 : Node l v → Fits w64 (n + 3)
-  len_fits3 N = record { fits = omega (arith, N.ends) }
-
-  pub len_fits1 : Node l v → Fits w64 (n + 1)
-  len_fits1 N = record { fits = omega (arith, N.ends) }
-
   pub len_lut : k ≡ 14 → n + 3 ≡ length (gate_words (gate_at l v))
   len_lut t = omega (arith, length_record l v, length_table l v (sym q ∙ t))
 
@@ -58,9 +49,6 @@ module _ (l : List ℕ) (c : Counts) (H : Held l c) (v n : ℕ) (I : (v ≤ c.no
 
     pub len_fits : Fits w64 (n + m)
     len_fits = record { fits = omega (arith, length_next l v, words_few l c H (suc v) h, I.1) }
-
-    pub len_count : Fits w64 (v + 1)
-    len_count = record { fits = omega (arith, nodes_few l c H) }
 
   module _ (h : c.nodes ≤ v) where
     pub len_all : 4 * (n + c.outs + 4) ≡ length (image_of (network_of l c))
@@ -86,24 +74,9 @@ module _ (l : List ℕ) (first n : ℕ) (b : List ℕ) (at : ℕ) (P : Inputs l 
   ins_none = refl
 
   module _ (b' : List ℕ) (j : ℕ) (I : (j ≤ n) × (length b' ≡ length b) × (b' ≡ put_words b at (ins_from l first j))) where
-    pub ins_all : n ≤ j → b' ≡ put_words b at (ins_from l first n)
-    ins_all h = I.2 ∙ ap (λ (k : ℕ). put_words b at (ins_from l first k)) (le_antisymm I.0 h)
-
     module _ (h : j < n) where
-      pub ins_four : Fits w64 (4 * j)
-      ins_four = record { fits = omega (arith, P.inside) }
-
-      pub ins_at_lem : length b < 2 ^ 64 → Fits w64 (at + 4 * j)
-      ins_at_lem f = record { fits = omega (arith, P.room) }
-
       pub ins_place : Fits w64 (first + j)
       ins_place = record { fits = omega (arith, P.inside) }
-
-      pub ins_asked : (first + j < 2048) × (net_size ≤ length l)
-      ins_asked = (omega (arith, P.inside), P.long)
-
-      pub ins_room : at + 4 * j + 4 ≤ length b'
-      ins_room = rw I.1 (omega (arith, P.room))
 
       pub ins_next : (s : ℕ) → s ≡ input_at l (first + j) → (b'' : List ℕ) → length b'' ≡ length b' → b'' ≡ put_word b' (at + 4 * j) s
           → (j + 1 ≤ n) × (length b'' ≡ length b) × (b'' ≡ put_words b at (ins_from l first (j + 1)))
@@ -116,13 +89,7 @@ module _ (l : List ℕ) (n : ℕ) (b : List ℕ) (at : ℕ) (P : Outputs l n b a
   outs_none = refl
 
   module _ (b' : List ℕ) (j : ℕ) (I : (j ≤ n) × (length b' ≡ length b) × (b' ≡ put_words b at (outs_from l j))) where
-    pub outs_all : n ≤ j → b' ≡ put_words b at (outs_from l n)
-    outs_all h = I.2 ∙ ap (λ (k : ℕ). put_words b at (outs_from l k)) (le_antisymm I.0 h)
-
     module _ (h : j < n) where
-      pub outs_four : Fits w64 (4 * j)
-      outs_four = record { fits = omega (arith, P.few) }
-
       pub outs_at : length b < 2 ^ 64 → Fits w64 (at + 4 * j)
       outs_at f = record { fits = omega (arith, P.room) }
 
@@ -154,12 +121,6 @@ module _ (l : List ℕ) (v : ℕ) (out : List ℕ) (at : ℕ) where
       pub high_room : (n : ℕ) → n ≡ length out → at + 4 + 4 ≤ n
       high_room n s = omega (arith, table_room)
 
-      pub high_at_lem : length out < 2 ^ 64 → Fits w64 (at + 4)
-      high_at_lem f = record { fits = omega (arith, table_room) }
-
-      pub table_end : length out < 2 ^ 64 → Fits w64 (at + 8)
-      table_end f = record { fits = omega (arith, table_room) }
-
     pub put_lut : (low high : ℕ) → low ≡ low_at l v → high ≡ high_at l v → low < 4294967296 → (out1 out2 : List ℕ) → out1 ≡ put_word out at low
         → out2 ≡ put_word out1 (at + 4) high → Put out at (table_words (gate_at l v)) out2 (at + 8)
     unfolding put_words
@@ -171,22 +132,7 @@ module _ (l : List ℕ) (v : ℕ) (out : List ℕ) (at : ℕ) (W : Writes l v (g
   pub head_room : at + 4 ≤ length out
   head_room = omega (arith, W.room, length_record l v)
 
-  pub head_end : length out < 2 ^ 64 → Fits w64 (at + 4)
-  head_end f = record { fits = omega (arith, head_room) }
-
   module _ (n : ℕ) (e : n ≡ count_at l v) where
-    pub count_word : Fits w32 n
-    count_word = record { fits = omega (arith, W.node.ends) }
-
-    pub count_high : Fits w32 (256 * n)
-    count_high = record { fits = omega (arith, W.node.ends) }
-
-    pub head_word : (k : ℕ) → k ≡ kind_at l v → Fits w32 (k + 256 * n)
-    head_word k q = record { fits = omega (arith, W.node.ends, W.node.known) }
-
-    pub ins_bytes : Fits w64 (4 * n)
-    ins_bytes = record { fits = omega (arith, W.node.ends) }
-
     pub ins_end : length out < 2 ^ 64 → Fits w64 (at + 4 + 4 * n)
     ins_end f = record { fits = omega (arith, W.room, length_record l v) }
 
@@ -227,12 +173,6 @@ module _ (l out₀ : List ℕ) (v : ℕ) (out : List ℕ) (at : ℕ) (P : Put ou
 
   pub nodes_next : (out' : List ℕ) (r : ℕ) → Put out at (gate_words (gate_at l v)) out' r → Put out₀ 0 (gates_words (nodes_of l (v + 1))) out' r
   nodes_next out' r Q = rw (add-one v, words_next l v, Q.end) (put_more out₀ 0 (gates_words (nodes_of l v)) out at P (gate_words (gate_at l v)) out' Q.bytes)
-
-  pub nodes_all : (n : ℕ) → n ≤ v → v ≤ n → Put out₀ 0 (gates_words (nodes_of l n)) out at
-  nodes_all n h k = let e : v ≡ n = omega arith in rw (← e) P
-
-pub nodes_count : (l out : List ℕ) (c : Counts) (v : ℕ) (ws : List ℕ) → Room l c ws out → v < c.nodes → Fits w64 (v + 1)
-nodes_count l out c v ws R h = record { fits = omega (arith, nodes_few l c R.held) }
 
 -- ---- write_image
 
@@ -294,30 +234,13 @@ module _ (l : List ℕ) (c : Counts) (out : List ℕ) (R : Room l c (net_words (
 
 -- ---- write_mapping
 
-module _ (l : List ℕ) (old : ℕ) (map₀ : List ℕ) (M : Mapped l old map₀) where
-  pub mapping_none : map₀ ≡ laid_over (mapping_in l 0) map₀
-  unfolding mapping_in tab
-  mapping_none = laid_none map₀
-
-  module _ (map : List ℕ) (i : ℕ) (I : (i ≤ old) × (length map ≡ length map₀) × (map ≡ laid_over (mapping_in l i) map₀)) where
-    pub mapping_all : old ≤ i → map ≡ laid_over (mapping_in l old) map₀
-    mapping_all h = I.2 ∙ ap (λ (k : ℕ). laid_over (mapping_in l k) map₀) (le_antisymm I.0 h)
-
-    module _ (h : i < old) where
-      pub mapping_read : 4672 + i < length l
-      mapping_read = omega (arith, M.inside)
-
-      pub mapping_place : length map₀ * 4 < 2 ^ 63 → Fits w64 (i * 4)
-      mapping_place f = record { fits = omega (arith, M.room) }
-
-      pub mapping_room : i < length map
-      mapping_room = rw I.1 (omega (arith, M.room))
-
-      pub mapping_next : (x : ℕ) → x ≡ cell l tr_base i
-          → (i + 1 ≤ old) × (length (set map i x) ≡ length map₀) × (set map i x ≡ laid_over (mapping_in l (i + 1)) map₀)
-      unfolding mapping_in tab
-      mapping_next x k = (
-        omega arith,
-        length-set map i x ∙ I.1,
-        rw (I.2, k, add-one) (laid_next (tab (cell l tr_base) i) map₀ i (cell l tr_base i) (length_tab (cell l tr_base) i) (omega (arith, M.room))),
-      )
+pub mapping_copied : (l : List ℕ) (old : ℕ) (map₀ : List ℕ) → Mapped l old map₀ → (n : ℕ) (m : List ℕ) → n ≡ tr_base + old - tr_base → m ≡ take n (drop tr_base l)
+    → m ++ drop old map₀ ≡ laid_over (mapping_in l old) map₀
+unfolding mapping_in laid_over cell
+mapping_copied l old map₀ M n m d e =
+    let k : n ≡ old = omega arith in
+    let ws : List ℕ = drop tr_base l in
+    let within : old ≤ length ws = rw length-drop (omega (arith, M.inside)) in
+    let f : ℕ → ℕ = cell l tr_base in
+    let is : m ≡ tab f old = e ∙ ap (λ (i : ℕ). take i ws) k ∙ take_tab ws old within ∙ tab_ext _ _ old (λ i h. get_or-drop tr_base l i 0) in
+    rw (is, length_tab f old)

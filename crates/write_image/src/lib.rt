@@ -12,7 +12,7 @@ ghost use Rattle.write_image.specs.Writing.{ins_from, outs_from, mapping_in, Nod
 use image_trailer::write_trailer;
 use tables::counts::Counts;
 use tables::layout::{count_at, first_at, high_at, input_at, kind_at, low_at, output_at};
-use tables::scratch::{TR, word};
+use tables::scratch::TR;
 use words::put_word;
 
 // The words of node v's record.
@@ -31,10 +31,8 @@ pub fn image_len(from: &[u32], counts: Counts) -> usize
 {
     let nodes = counts.nodes;
     let mut n: usize = 0;
-    let mut v: usize = 0;
-    while v < nodes {
+    for v in 0..nodes {
         n += record_len(from, v);
-        v += 1;
     }
     4 * (n + counts.outs + 4)
 }
@@ -44,10 +42,8 @@ fn write_inputs(from: &[u32], first: usize, n: usize, out: &mut [u8], at: usize)
     requires { Inputs from.now first n out.old at }
     ensures { out.new ≡ put_words out.old at (ins_from from.now first n) }
 {
-    let mut j: usize = 0;
-    while j < n {
+    for j in 0..n {
         put_word(out, at + 4 * j, input_at(from, first + j));
-        j += 1;
     }
 }
 
@@ -82,23 +78,20 @@ fn write_nodes(from: &[u32], counts: Counts, out: &mut [u8]) -> usize
 {
     let nodes = counts.nodes;
     let mut at: usize = 0;
-    let mut v: usize = 0;
-    while v < nodes {
+    for v in 0..nodes {
         at = write_gate(from, v, out, at);
-        v += 1;
     }
     at
 }
 
 // So many outputs, as words from the byte `at` on.
+// stays beside write_inputs: where the words stand is for tables to say (input_at, output_at), so no slice of them is lent.
 fn write_outputs(from: &[u32], outs: usize, out: &mut [u8], at: usize)
     requires { Outputs from.now outs out.old at }
     ensures { out.new ≡ put_words out.old at (outs_from from.now outs) }
 {
-    let mut j: usize = 0;
-    while j < outs {
+    for j in 0..outs {
         put_word(out, at + 4 * j, output_at(from, j));
-        j += 1;
     }
 }
 
@@ -117,9 +110,5 @@ pub fn write_mapping(from: &[u32], old: usize, map: &mut [u32])
     requires { Mapped from.now old map.old }
     ensures { map.new ≡ laid_over (mapping_in from.now old) map.old }
 {
-    let mut i: usize = 0;
-    while i < old {
-        map[i] = word(from, TR, i);
-        i += 1;
-    }
+    map[..old].copy_from_slice(&from[TR..TR + old]);
 }

@@ -11,9 +11,6 @@ loop-j-init c = search (rules, ins)
 pub best_with-u-requires : goal.best_with-u-requires
 best_with-u-requires c = search (rules, ins)
 
-pub overflow_add-j : goal.overflow_add-j
-overflow_add-j c = search (rules, ins)
-
 pub loop-j-smaller : goal.loop-j-smaller
 loop-j-smaller c = search (rules, ins)
 

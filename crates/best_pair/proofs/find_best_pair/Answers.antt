@@ -8,17 +8,14 @@ loop-i-init c = search (rules, overs)
 pub best_in-u-requires : goal.best_in-u-requires
 best_in-u-requires c = search (rules, overs)
 
-pub overflow_add-i : goal.overflow_add-i
-overflow_add-i c = search (rules, overs)
-
 pub loop-i-smaller : goal.loop-i-smaller
 loop-i-smaller c = search (rules, overs)
 
 pub loop-i-preserved : goal.loop-i-preserved
 loop-i-preserved c = search (rules, overs)
 
-pub returns-then-n-eq0 : goal.returns-then-n-eq0
-returns-then-n-eq0 c = search (rules, overs)
+pub returns-then-u-eq0 : goal.returns-then-u-eq0
+returns-then-u-eq0 c = search (rules, overs)
 
 pub returns : goal.returns
 returns c = search (rules, overs)

@@ -1,5 +1,5 @@
 -- `count_down`: what its loop keeps, and each need by its law.
-use Prim.Native.Nat.{◌≤◌, ◌-◌}
+use Prim.Native.Nat.{◌≤◌}
 use mathlib.Core.Path.{◌≡◌}
 use lib.ListN.{length}
 use Rattle.count_down.specs.Lowering.{Lowered, down_ins}
@@ -7,6 +7,3 @@ use Rattle.count_down.proofs.count_down.Given as goal
 
 abbrev pub invariant-loop-j : goal.invariant-loop-j
 invariant-loop-j l = (l.j ≤ l.n) × (length l.to ≡ length l.initial.to) × Lowered (down_ins l.from l.f l.initial.to l.sp l.j) l.to l.top
-
-abbrev pub decreases-loop-j : goal.decreases-loop-j
-decreases-loop-j l = l.n - l.j

@@ -2,9 +2,6 @@ use borrow.Author.Rules.{rules}
 use Rattle.count_pair.proofs.Counts.{counts}
 use Rattle.count_pair.proofs.count_pair.Goals as goal
 
-pub overflow_add-n : goal.overflow_add-n
-overflow_add-n c = search (rules, counts)
-
 pub loop-i-preserved : goal.loop-i-preserved
 loop-i-preserved c = search (rules, counts)
 

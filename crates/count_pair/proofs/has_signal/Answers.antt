@@ -1,12 +1,6 @@
 use borrow.Author.Rules.{rules}
-use Rattle.count_pair.proofs.Counts.{has_end, has_hit, has_miss, sig_fits, sig_room}
+use Rattle.count_pair.proofs.Counts.{has_end, has_hit, has_miss}
 use Rattle.count_pair.proofs.has_signal.Goals as goal
-
-pub overflow_add-f : goal.overflow_add-f
-overflow_add-f c = search (rules, sig_fits)
-
-pub sig_at-requires : goal.sig_at-requires
-sig_at-requires c = search (rules, sig_room)
 
 pub returns-then-sig_at-x : goal.returns-then-sig_at-x
 returns-then-sig_at-x c = search (rules, has_hit)

@@ -1,17 +1,13 @@
--- 1, or the work in the areas.
-use mathlib.Core.Path.{sym, ◌∙◌}
+-- `evaluate`: its work gets long areas, and what `lend` gives is the promise.
+use borrow.Author.Rules.{rules}
 use Rattle.model.specs.Entries.{evaluate_outcome}
+use Rattle.lending.proofs.Entered.{lent_a, lent_b, entered2}
 use Rattle.evaluation.specs.Works.{evaluate_work}
-use Rattle.tables.proofs.Entering.{short_kept2}
 use Rattle.evaluation.proofs.evaluate.Goals as goal
 
-pub returns-then-areas_short : goal.returns-then-areas_short
-unfolding evaluate_outcome evaluate_work
-returns-then-areas_short c = short_kept2 _ _ _ c.areas_short.ensures c.if-areas_short.true _ _ _
-
-pub in_areas-requires : goal.in_areas-requires
-in_areas-requires c = sym c.areas_short.ensures ∙ c.if-areas_short.false
+pub lend-requires : goal.lend-requires
+lend-requires c = λ h o s p q i j k l. let m = lent_a _ _ h _ k in let n = lent_b _ _ h _ l in search rules
 
 pub returns : goal.returns
 unfolding evaluate_outcome evaluate_work
-returns c = c.in_areas.ensures
+returns c = entered2 _ _ _ _ _ _ _ _ _ _ c.lend.ensures.short (λ h. let g = c.lend.ensures.gives h in search rules) c.lend.ensures.cleared

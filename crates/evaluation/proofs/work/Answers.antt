@@ -1,37 +1,14 @@
--- What loading answered, or the cycle of the network that it put into the area.
-use borrow.Author.Rules.{rules}
-use Rattle.evaluation.proofs.Working.{works}
+-- `work`: what loading answered, or the cycle of the network that it put into the area.
+use Rattle.std.proofs.lemmas.Result.{err_from_is_err_and}
+use Rattle.evaluation.proofs.Working.{evaluate_refused, evaluate_runs, evaluate_cycled}
 use Rattle.evaluation.proofs.work.Goals as goal
 
-pub load_sorted-l-requires : goal.load_sorted-l-requires
-load_sorted-l-requires c = search (rules, works)
-
-pub enum_known-l : goal.enum_known-l
-enum_known-l c = search (rules, works)
-
-pub enum_known-l-in-Network-1 : goal.enum_known-l-in-Network-1
-enum_known-l-in-Network-1 c = search (rules, works)
+pub returns-in_err-counts : goal.returns-in_err-counts
+returns-in_err-counts c = let p = err_from_is_err_and c.from_residual.result c.from_residual.ensures.1 in
+    evaluate_refused _ _ _ _ _ _ _ _ c.in_err-counts.ensures p.1 p.2
 
 pub evaluate-requires : goal.evaluate-requires
-evaluate-requires c = search (rules, works)
+evaluate-requires c = evaluate_runs c.args.image.now _ c.args.inputs.now c.args.state.now c.args.outputs.now _ c.in_ok-counts.ensures _ c.requires.1
 
-pub shape_of-a-in-Refused : goal.shape_of-a-in-Refused
-shape_of-a-in-Refused c = search (rules, works)
-
-pub returns-in-Refused : goal.returns-in-Refused
-returns-in-Refused c = search (rules, works)
-
-pub shape_of-state : goal.shape_of-state
-shape_of-state c = search (rules, works)
-
-pub shape_of-outputs : goal.shape_of-outputs
-shape_of-outputs c = search (rules, works)
-
-pub shape_of-a-in-Network : goal.shape_of-a-in-Network
-shape_of-a-in-Network c = search (rules, works)
-
-pub shape_of-b : goal.shape_of-b
-shape_of-b c = search (rules, works)
-
-pub returns-in-Network : goal.returns-in-Network
-returns-in-Network c = search (rules, works)
+pub returns : goal.returns
+returns c = evaluate_cycled _ _ _ _ _ _ c.in_ok-counts.ensures _ _ _ c.evaluate.ensures

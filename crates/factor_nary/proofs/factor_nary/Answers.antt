@@ -1,13 +1,15 @@
--- `factor_nary`: each need by its law.
-use borrow.Author.Rules.{rules}
-use Rattle.factor_nary.proofs.Passes.{factor_left, passes}
+-- `factor_nary`: what refuses the first pass, or what the second leaves.
+use Rattle.std.proofs.lemmas.Result.{err_from_is_err_and}
+use Rattle.stages.proofs.Staging.{next_workable}
+use Rattle.factor_nary.proofs.Passes.{factor_refused, factor_left}
 use Rattle.factor_nary.proofs.factor_nary.Goals as goal
 
-pub factor_gates-requires : goal.factor_gates-requires
-factor_gates-requires c = search (rules, passes)
+pub returns-in_err-shared : goal.returns-in_err-shared
+returns-in_err-shared c = let p = err_from_is_err_and c.from_residual.result c.from_residual.ensures.1 in
+    factor_refused _ _ _ c.in_err-shared.ensures _ _ _ p.1 p.2
 
-pub returns-in-Refused : goal.returns-in-Refused
-returns-in-Refused c = search (rules, passes)
+pub factor_gates-requires-2 : goal.factor_gates-requires-2
+factor_gates-requires-2 c = next_workable _ _ _ _ _ _ c.requires _ _ c.in_ok-shared.ensures c.factor_gates.auto.from c.factor_gates.auto.to
 
-pub returns-in-Network : goal.returns-in-Network
-returns-in-Network c = factor_left _ _ _ c.factor_gates-s.ensures _ (search rules) _ _ c.factor_gates.ensures
+pub returns : goal.returns
+returns c = factor_left _ _ _ c.in_ok-shared.ensures _ _ c.factor_gates-2.ensures

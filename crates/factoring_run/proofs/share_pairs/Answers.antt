@@ -1,28 +1,17 @@
 -- `share_pairs`: each need by its law.
-use borrow.Author.Rules.{rules}
-use Rattle.factoring_run.proofs.Runs.{shares}
+use native.Mathlib.Omega.{arith}
+use Rattle.factoring.proofs.Turns.{ready_next, ready_of}
+use Rattle.factoring_run.proofs.Runs.{share_done, share_full}
 use Rattle.factoring_run.proofs.share_pairs.Goals as goal
 
-pub consume_binary_gates-r-requires : goal.consume_binary_gates-r-requires
-consume_binary_gates-r-requires c = search (rules, shares)
-
-pub enum_known-r : goal.enum_known-r
-enum_known-r c = search (rules, shares)
+pub returns-in_err-k : goal.returns-in_err-k
+returns-in_err-k c = rw c.from_residual.ensures (share_full _ _ _ _ _ _ c.consume_binary_gates.ensures c.in_err-k.was)
 
 pub consume_pairs-requires : goal.consume_pairs-requires
-consume_pairs-requires c = search (rules, shares)
+consume_pairs-requires c =
+    let r = ready_of _ _ _ 0 _ c.args.p.old c.args.p.fits c.requires (omega arith) in
+    let s = ready_next _ _ _ _ _ _ _ _ _ r c.consume_binary_gates.ensures c.in_ok-k.was in
+    record { laid = s.laid; more = s.more }
 
-pub enum_told-1 : goal.enum_told-1
-enum_told-1 c = search (rules, shares)
-
-pub shape_of-to-in-To : goal.shape_of-to-in-To
-shape_of-to-in-To c = search (rules, shares)
-
-pub returns-in-To : goal.returns-in-To
-returns-in-To c = search (rules, shares)
-
-pub shape_of-to-in-Full : goal.shape_of-to-in-Full
-shape_of-to-in-Full c = search (rules, shares)
-
-pub returns-in-Full : goal.returns-in-Full
-returns-in-Full c = search (rules, shares)
+pub returns : goal.returns
+returns c = share_done _ _ _ _ _ _ c.consume_binary_gates.ensures _ c.in_ok-k.was _ _ c.consume_pairs.ensures

@@ -1,10 +1,6 @@
 -- `flatten_nodes`: what its loop keeps, and each need by its law.
-use Prim.Native.Nat.{◌-◌}
 use Rattle.flatten.proofs.Wholes.{Flattened}
 use Rattle.flatten.proofs.flatten_nodes.Given as goal
 
 abbrev pub invariant-loop-v : goal.invariant-loop-v
-invariant-loop-v l = Flattened l.from l.initial.to l.to l.counts l.limit l.at l.v
-
-abbrev pub decreases-loop-v : goal.decreases-loop-v
-decreases-loop-v l = l.counts.nodes - l.v
+invariant-loop-v l = Flattened l.from l.initial.to l.to l.fn.counts l.limit l.at l.v

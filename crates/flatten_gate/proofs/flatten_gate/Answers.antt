@@ -6,14 +6,14 @@ use Rattle.flatten_gate.proofs.flatten_gate.Goals as goal
 pub merge_gate-requires : goal.merge_gate-requires
 merge_gate-requires c = search (rules, flattens)
 
-pub returns-then-is_and : goal.returns-then-is_and
-returns-then-is_and c = search (rules, flattens)
+pub returns-then-in_family : goal.returns-then-in_family
+returns-then-in_family c = search (rules, flattens)
 
-pub merge_gate-requires-then-is_xor : goal.merge_gate-requires-then-is_xor
-merge_gate-requires-then-is_xor c = search (rules, flattens)
+pub merge_gate-requires-then-in_family-2 : goal.merge_gate-requires-then-in_family-2
+merge_gate-requires-then-in_family-2 c = search (rules, flattens)
 
-pub returns-then-is_xor : goal.returns-then-is_xor
-returns-then-is_xor c = flat_xor _ _ _ _ c.requires _ _ c.kind_at.ensures c.kind_of-k.ensures _ _ _ _ c.is_and.ensures c.if-is_and.false _ c.is_xor.ensures c.if-is_xor.true c.merge_gate-then-is_xor.ensures
+pub returns-then-in_family-2 : goal.returns-then-in_family-2
+returns-then-in_family-2 c = flat_xor _ _ _ _ c.requires _ _ c.kind_at.ensures c.kind_of-k.ensures _ _ _ _ c.in_family.ensures c.if-in_family.false _ c.in_family-2.ensures c.if-in_family-2.true c.merge_gate-then-in_family-2.ensures
 
 pub returns : goal.returns
-returns c = flat_other _ _ _ _ c.requires _ _ c.kind_at.ensures c.kind_of-k.ensures _ _ _ _ c.is_and.ensures c.if-is_and.false _ c.is_xor.ensures c.if-is_xor.false c.push_gate.ensures
+returns c = flat_other _ _ _ _ c.requires _ _ c.kind_at.ensures c.kind_of-k.ensures _ _ _ _ c.in_family.ensures c.if-in_family.false _ c.in_family-2.ensures c.if-in_family-2.false c.push_gate.ensures

@@ -1,7 +1,9 @@
 -- `record_at`: each need by its law.
-use Rattle.image_record.proofs.Places.{parts}
-use borrow.Author.Rules.{rules}
+use Rattle.image_record.proofs.Places.{at_none, part_at}
 use Rattle.image_record.proofs.record_at.Goals as goal
 
-pub returns : goal.returns
-returns c = search (rules, parts)
+pub returns-in-Some : goal.returns-in-Some
+returns-in-Some c = part_at _ _ _ c.in-Some.ensures
+
+pub returns-in-None : goal.returns-in-None
+returns-in-None c = at_none _ _ c.in-None.ensures

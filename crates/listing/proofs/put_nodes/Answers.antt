@@ -9,18 +9,6 @@ loop-v-init c = search (rules, walks)
 pub put_node-p-requires : goal.put_node-p-requires
 put_node-p-requires c = search (rules, walks)
 
-pub overflow_add-v : goal.overflow_add-v
-overflow_add-v c = search (rules, walks)
-
-pub loop-v-smaller : goal.loop-v-smaller
-loop-v-smaller c = search (rules, walks)
-
 pub loop-v-preserved : goal.loop-v-preserved
 loop-v-preserved c = let i = c.loop-v.invariant in
     (omega arith, omega arith, nodes_next _ _ _ _ _ _ _ _ (omega arith) c.put_node-p.ensures i.2)
-
-pub shape_of-out : goal.shape_of-out
-shape_of-out c = search (rules, walks)
-
-pub returns : goal.returns
-returns c = search (rules, walks)

@@ -1,5 +1,5 @@
--- `put_outputs`: what its loop keeps, and each need by its law.
-use Prim.Native.Nat.{◌≤◌, ◌-◌}
+-- `put_outputs`: what its loop keeps.
+use Prim.Native.Nat.{◌≤◌}
 use mathlib.Core.Path.{◌≡◌}
 use lib.ListN.{length}
 use Rattle.model.specs.Listing.{numbered, output_line}
@@ -9,6 +9,3 @@ use Rattle.listing.proofs.put_outputs.Given as goal
 
 abbrev pub invariant-loop-o : goal.invariant-loop-o
 invariant-loop-o l = (l.o ≤ l.outs) × (length l.out ≡ length l.initial.out) × Put l.initial.out l.at (numbered output_line 0 (outputs_of l.from l.o)) l.out l.p
-
-abbrev pub decreases-loop-o : goal.decreases-loop-o
-decreases-loop-o l = l.outs - l.o

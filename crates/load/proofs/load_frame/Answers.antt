@@ -1,4 +1,5 @@
 -- `load_frame`: each need by its law.
+use mathlib.Core.Path.{refl}
 use Rattle.load.proofs.Accepting.{frame_start, frame_loadable, frame_counted}
 use Rattle.load.proofs.load_frame.Goals as goal
 
@@ -9,7 +10,7 @@ pub slice_bounds-load_body-start : goal.slice_bounds-load_body-start
 slice_bounds-load_body-start c = frame_start _ _ _ c.requires
 
 pub load_body-requires : goal.load_body-requires
-load_body-requires c = frame_loadable _ _ _ c.requires _ _ _ c.wide.ensures c.wide-2.ensures c.wide-3.ensures
+load_body-requires c = frame_loadable _ _ _ c.requires _ _ _ refl refl refl
 
 pub returns : goal.returns
-returns c = frame_counted _ _ _ c.requires _ _ _ c.wide.ensures c.wide-2.ensures c.wide-3.ensures _ c.load_body.ensures
+returns c = frame_counted _ _ _ c.requires _ _ _ refl refl refl _ c.load_body.ensures

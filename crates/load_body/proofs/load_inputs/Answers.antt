@@ -1,7 +1,6 @@
 use Prim.Native.Nat.{zero-le}
 use mathlib.Core.Path.{refl}
-use Rattle.laws.proofs.Turns.{turn_less}
-use Rattle.load_body.proofs.Copying.{inputs_none, inputs_word, inputs_at, inputs_place, inputs_room, inputs_count, inputs_next, inputs_end}
+use Rattle.load_body.proofs.Copying.{inputs_none, inputs_word, inputs_at, inputs_place, inputs_room, inputs_next, inputs_end}
 use Rattle.load_body.proofs.load_inputs.Goals as goal
 
 pub loop-j-init : goal.loop-j-init
@@ -18,12 +17,6 @@ overflow_add-first c = inputs_place _ _ _ _ _ c.requires _ _ c.loop-j.invariant 
 
 pub put_input-requires : goal.put_input-requires
 put_input-requires c = inputs_room _ _ _ _ _ c.requires _ _ c.loop-j.invariant c.loop-j-test.true
-
-pub overflow_add-j : goal.overflow_add-j
-overflow_add-j c = inputs_count _ _ _ _ _ c.requires _ _ c.loop-j.invariant c.loop-j-test.true
-
-pub loop-j-smaller : goal.loop-j-smaller
-loop-j-smaller c = turn_less c.loop-j-test.true
 
 pub loop-j-preserved : goal.loop-j-preserved
 loop-j-preserved c = inputs_next _ _ _ _ _ c.requires _ _ c.loop-j.invariant c.loop-j-test.true _ _ c.nth-s.ensures c.put_input.auto.net c.put_input.ensures

@@ -1,7 +1,6 @@
 use Prim.Native.Nat.{zero-le}
 use mathlib.Core.Path.{refl}
-use Rattle.laws.proofs.Turns.{turn_less}
-use Rattle.load_body.proofs.Copying.{outputs_none, outputs_word, outputs_at, outputs_room, outputs_count, outputs_next, outputs_end}
+use Rattle.load_body.proofs.Copying.{outputs_none, outputs_word, outputs_at, outputs_room, outputs_next, outputs_end}
 use Rattle.load_body.proofs.load_outputs.Goals as goal
 
 pub loop-j-init : goal.loop-j-init
@@ -15,12 +14,6 @@ nth-s-requires c = outputs_word _ _ _ _ c.requires _ _ c.loop-j.invariant c.loop
 
 pub put_output-requires : goal.put_output-requires
 put_output-requires c = outputs_room _ _ _ _ c.requires _ _ c.loop-j.invariant c.loop-j-test.true
-
-pub overflow_add-j : goal.overflow_add-j
-overflow_add-j c = outputs_count _ _ _ _ c.requires _ _ c.loop-j.invariant c.loop-j-test.true
-
-pub loop-j-smaller : goal.loop-j-smaller
-loop-j-smaller c = turn_less c.loop-j-test.true
 
 pub loop-j-preserved : goal.loop-j-preserved
 loop-j-preserved c = outputs_next _ _ _ _ c.requires _ _ c.loop-j.invariant c.loop-j-test.true _ _ c.nth-s.ensures c.put_output.auto.net c.put_output.ensures

@@ -1,5 +1,5 @@
 -- `load_outputs`: what its loop keeps, and each need by its law.
-use Prim.Native.Nat.{◌≤◌, ◌-◌}
+use Prim.Native.Nat.{◌≤◌}
 use mathlib.Core.Path.{◌≡◌}
 use lib.ListN.{length}
 use Rattle.model.specs.Image.{words}
@@ -9,6 +9,3 @@ use Rattle.load_body.proofs.load_outputs.Given as goal
 
 abbrev pub invariant-loop-j : goal.invariant-loop-j
 invariant-loop-j l = (l.j ≤ l.outs) × (length l.to ≡ length l.initial.to) × (l.to ≡ put_outputs l.initial.to (word_from (words l.body) l.at) l.j)
-
-abbrev pub decreases-loop-j : goal.decreases-loop-j
-decreases-loop-j l = l.outs - l.j

@@ -1,10 +1,6 @@
 -- `merge_dependencies`: what its loop keeps, and each need by its law.
-use Prim.Native.Nat.{◌-◌}
 use Rattle.merge_dependencies.proofs.Dependencies.{Gathered}
 use Rattle.merge_dependencies.proofs.merge_dependencies.Given as goal
 
 abbrev pub invariant-loop-j : goal.invariant-loop-j
 invariant-loop-j l = Gathered l.f l.from l.initial.to l.to l.v l.limit l.start l.at l.j
-
-abbrev pub decreases-loop-j : goal.decreases-loop-j
-decreases-loop-j l = l.n - l.j

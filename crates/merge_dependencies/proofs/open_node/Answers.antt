@@ -6,8 +6,8 @@ use Rattle.merge_dependencies.proofs.open_node.Goals as goal
 pub returns-then-at-n : goal.returns-then-at-n
 returns-then-at-n c = search (rules, open_nodes)
 
-pub copy_within-requires : goal.copy_within-requires
-copy_within-requires c = search (rules, open_nodes)
+pub move_inputs-requires : goal.move_inputs-requires
+move_inputs-requires c = search (rules, open_nodes)
 
 pub returns : goal.returns
 returns c = search (rules, open_nodes)

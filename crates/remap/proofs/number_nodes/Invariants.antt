@@ -1,5 +1,5 @@
 -- `number_nodes`: what its loop keeps, and each need by its law.
-use Prim.Native.Nat.{◌≤◌, ◌-◌}
+use Prim.Native.Nat.{◌≤◌}
 use mathlib.Core.Path.{◌≡◌}
 use lib.ListN.{length}
 use Rattle.remap.specs.Remapping.{Numbers}
@@ -7,6 +7,3 @@ use Rattle.remap.proofs.number_nodes.Given as goal
 
 abbrev pub invariant-loop-k : goal.invariant-loop-k
 invariant-loop-k l = (l.k ≤ l.m) × (length l.to ≡ length l.initial.to) × Numbers l.initial.to l.to l.n l.k
-
-abbrev pub decreases-loop-k : goal.decreases-loop-k
-decreases-loop-k l = l.m - l.k

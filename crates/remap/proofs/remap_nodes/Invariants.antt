@@ -1,5 +1,5 @@
 -- `remap_nodes`: what its loop keeps, and each need by its law.
-use Prim.Native.Nat.{◌≤◌, ◌-◌}
+use Prim.Native.Nat.{◌≤◌}
 use mathlib.Core.Path.{◌≡◌}
 use lib.ListN.{length}
 use Rattle.remap.specs.Remapping.{Moving}
@@ -7,6 +7,3 @@ use Rattle.remap.proofs.remap_nodes.Given as goal
 
 abbrev pub invariant-loop-k : goal.invariant-loop-k
 invariant-loop-k l = (l.k ≤ l.m) × (length l.to ≡ length l.initial.to) × Moving l.from l.initial.to l.to l.k l.at
-
-abbrev pub decreases-loop-k : goal.decreases-loop-k
-decreases-loop-k l = l.m - l.k

@@ -1,39 +1,16 @@
-use mathlib.Core.Path.{ap}
-use mathlib.Core.Bool.{not}
-use native.Mathlib.Omega.{arith}
 use borrow.Author.Rules.{rules}
-use Rattle.repeats.proofs.Searched.{clear_skip, searched}
+use Rattle.repeats.proofs.Searched.{clear_next, clear_skip, met_here, searched}
 use Rattle.repeats.proofs.any_repeats.Goals as goal
+use Rattle.repeats.proofs.any_repeats.Goals.{else-takes-via-then-takes+else-repeats, else-takes-via-else-takes}
+
+pub loop-v-preserved : goal.loop-v-preserved
+loop-v-preserved c = elim c.else-takes.branch [
+  | else-takes-via-then-takes+else-repeats w ↦ clear_next _ _ _ c.loop-v.invariant c.loop-v-test.true _ c.takes.ensures w.if-takes.true _ w.repeats.ensures w.if-repeats.false
+  | else-takes-via-else-takes w ↦ clear_skip _ _ _ c.loop-v.invariant c.loop-v-test.true _ c.takes.ensures w.if-takes.false
+]
+
+pub returns-then-repeats : goal.returns-then-repeats
+returns-then-repeats c = met_here _ _ _ c.loop-v.invariant c.loop-v-test.true _ c.takes.ensures c.if-takes.true _ c.repeats.ensures c.if-repeats.true
 
 pub loop-v-init : goal.loop-v-init
 loop-v-init c = search (rules, searched)
-
-pub takes-requires : goal.takes-requires
-takes-requires c = search (rules, searched)
-
-pub overflow_add-v : goal.overflow_add-v
-overflow_add-v c = search (rules, searched)
-
-pub loop-v-smaller-then-not-takes : goal.loop-v-smaller-then-not-takes
-loop-v-smaller-then-not-takes c = search (rules, searched)
-
-pub loop-v-preserved-then-not-takes : goal.loop-v-preserved-then-not-takes
-loop-v-preserved-then-not-takes c = clear_skip _ _ _ c.loop-v.invariant (omega arith) _ c.takes.ensures (ap not c.if-not-takes.true)
-
-pub repeats-requires : goal.repeats-requires
-repeats-requires c = search (rules, searched)
-
-pub returns-then-repeats : goal.returns-then-repeats
-returns-then-repeats c = search (rules, searched)
-
-pub overflow_add-v-in-loop-v : goal.overflow_add-v-in-loop-v
-overflow_add-v-in-loop-v c = search (rules, searched)
-
-pub loop-v-smaller : goal.loop-v-smaller
-loop-v-smaller c = search (rules, searched)
-
-pub loop-v-preserved : goal.loop-v-preserved
-loop-v-preserved c = search (rules, searched)
-
-pub returns : goal.returns
-returns c = search (rules, searched)

@@ -1,6 +1,5 @@
 -- `replace_in`: each need by its law.
 use native.Mathlib.Omega.{arith}
-use borrow.Author.Tests.{not-false, not-true}
 use Rattle.replace_in.proofs.Taking.{repl_no, repl_room, repl_yes}
 use Rattle.replace_in.proofs.replace_in.Goals as goal
 

@@ -9,9 +9,6 @@ loop-i-init c = search (rules, swaps)
 pub replace_in-requires : goal.replace_in-requires
 replace_in-requires c = search (rules, swaps)
 
-pub overflow_add-i : goal.overflow_add-i
-overflow_add-i c = search (rules, swaps)
-
 pub loop-i-smaller : goal.loop-i-smaller
 loop-i-smaller c = search (rules, swaps)
 

@@ -15,11 +15,11 @@ returns-then-input-gt16384 c = search (rules, answers, entry)
 pub slice_bounds-show-end : goal.slice_bounds-show-end
 slice_bounds-show-end c = search (rules, answers, entry)
 
-pub slice_bounds-show-end-in-Accepted : goal.slice_bounds-show-end-in-Accepted
-slice_bounds-show-end-in-Accepted c = sym (length-take-le _ _ (search (rules, answers, entry)))
+pub slice_bounds-show-end-in-Ok : goal.slice_bounds-show-end-in-Ok
+slice_bounds-show-end-in-Ok c = sym (length-take-le _ _ (search (rules, answers, entry)))
 
-pub returns-in-Refused : goal.returns-in-Refused
-returns-in-Refused c = search (rules, answers, entry)
+pub returns-in-Err : goal.returns-in-Err
+returns-in-Err c = search (rules, answers, entry)
 
-pub returns-in-Accepted : goal.returns-in-Accepted
-returns-in-Accepted c = search (rules, answers, entry)
+pub returns-in-Ok : goal.returns-in-Ok
+returns-in-Ok c = search (rules, answers, entry)

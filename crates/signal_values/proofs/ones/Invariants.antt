@@ -1,10 +1,6 @@
 -- The loop keeps the number of ones among the inputs passed.
-use Prim.Native.Nat.{◌-◌}
 use Rattle.signal_values.proofs.Turns.{Ones}
 use Rattle.signal_values.proofs.ones.Given as goal
 
 abbrev pub invariant-loop-j : goal.invariant-loop-j
 invariant-loop-j l = Ones l.from l.to l.first l.n l.j l.count
-
-abbrev pub decreases-loop-j : goal.decreases-loop-j
-decreases-loop-j l = l.count - l.j

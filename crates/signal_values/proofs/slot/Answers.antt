@@ -3,8 +3,5 @@ use borrow.Author.Rules.{rules}
 use Rattle.signal_values.proofs.Turns.{turns}
 use Rattle.signal_values.proofs.slot.Goals as goal
 
-pub wide-requires : goal.wide-requires
-wide-requires c = search (rules, turns)
-
 pub returns : goal.returns
 returns c = search (rules, turns)

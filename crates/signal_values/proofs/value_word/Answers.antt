@@ -3,9 +3,6 @@ use borrow.Author.Rules.{rules}
 use Rattle.signal_values.proofs.Turns.{turns}
 use Rattle.signal_values.proofs.value_word.Goals as goal
 
-pub slot-requires : goal.slot-requires
-slot-requires c = search (rules, turns)
-
 pub word-x-requires : goal.word-x-requires
 word-x-requires c = search (rules, turns)
 

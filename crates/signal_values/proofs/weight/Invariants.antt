@@ -4,6 +4,3 @@ use Rattle.signal_values.proofs.weight.Given as goal
 
 abbrev pub invariant-loop-j : goal.invariant-loop-j
 invariant-loop-j l = Weight l.from l.to l.first l.w l.j l.count
-
-abbrev pub decreases-loop-j : goal.decreases-loop-j
-decreases-loop-j l = l.j

@@ -4,8 +4,8 @@ use lib.ListN.{length}
 use Rattle.stack_search.specs.Searching.{Live, left_of}
 use Rattle.stack_search.proofs.visit_all.Given as goal
 
-abbrev pub invariant-loop-top : goal.invariant-loop-top
-invariant-loop-top l = (length l.to ≡ length l.initial.to) × Live l.from l.to l.c l.top l.at
+abbrev pub invariant-loop-t : goal.invariant-loop-t
+invariant-loop-t l = (length l.to ≡ length l.initial.to) × Live l.from l.to l.c l.t.sp l.t.pos
 
-abbrev pub decreases-loop-top : goal.decreases-loop-top
-decreases-loop-top l = left_of l.from l.to l.c l.top
+abbrev pub decreases-loop-t : goal.decreases-loop-t
+decreases-loop-t l = left_of l.from l.to l.c l.t.sp

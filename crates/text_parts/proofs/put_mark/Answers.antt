@@ -1,10 +1,7 @@
 -- `put_mark`: each need by its law.
 use borrow.Author.Rules.{rules}
-use Rattle.text_parts.proofs.Puts.{mark_put, mark_none}
+use Rattle.text_parts.proofs.Puts.{mark_none}
 use Rattle.text_parts.proofs.put_mark.Goals as goal
-
-pub returns-then-inverted : goal.returns-then-inverted
-returns-then-inverted c = mark_put _ _ _ c.if-inverted.true _ _ c.put.ensures
 
 pub returns-else-inverted : goal.returns-else-inverted
 returns-else-inverted c = search (rules, mark_none)

@@ -13,29 +13,11 @@ nth-h-requires c = search (rules, walks, gates)
 pub overflow_add-at : goal.overflow_add-at
 overflow_add-at c = search (rules, walks, gates)
 
-pub overflow_cast-h : goal.overflow_cast-h
-overflow_cast-h c = search (rules, walks, gates)
-
 pub reach-r-requires : goal.reach-r-requires
 reach-r-requires c = search (rules, walks, gates)
 
-pub kind_of-requires : goal.kind_of-requires
-kind_of-requires c = search (rules, walks, gates)
-
-pub is_flip_flop-requires : goal.is_flip_flop-requires
-is_flip_flop-requires c = search (rules, walks, gates)
-
-pub size_of-at-requires : goal.size_of-at-requires
-size_of-at-requires c = search (rules, walks, gates)
-
 pub overflow_add-at-in-loop-v : goal.overflow_add-at-in-loop-v
 overflow_add-at-in-loop-v c = search (rules, walks, gates)
-
-pub overflow_add-v : goal.overflow_add-v
-overflow_add-v c = search (rules, walks, gates)
-
-pub loop-v-smaller : goal.loop-v-smaller
-loop-v-smaller c = search (rules, walks, gates)
 
 pub loop-v-preserved : goal.loop-v-preserved
 loop-v-preserved c = let inv = c.loop-v.invariant in

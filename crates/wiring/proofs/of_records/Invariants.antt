@@ -9,6 +9,3 @@ use Rattle.wiring.proofs.of_records.Given as goal
 abbrev pub invariant-loop-v : goal.invariant-loop-v
 invariant-loop-v l = (wiring_from l.inputs l.nodes 0 l.nodes (words l.body) 0 ≡ joined l.named l.sorted (wiring_from l.inputs l.nodes l.v (l.nodes - l.v) (words l.body) l.at))
     × (end_from (l.nodes - l.v) (words l.body) l.at ≡ end_from l.nodes (words l.body) 0)
-
-abbrev pub decreases-loop-v : goal.decreases-loop-v
-decreases-loop-v l = l.nodes - l.v

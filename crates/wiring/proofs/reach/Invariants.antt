@@ -1,14 +1,10 @@
--- `reach`: what its loop keeps, and each need by its law.
+-- `reach`: what its loop keeps.
 use mathlib.Core.Path.{◌≡◌}
-use Prim.Native.Nat.{◌+◌}
+use Prim.Native.Nat.{◌+◌, ◌-◌}
 use Rattle.model.specs.Normal.{most}
 use Rattle.model.specs.Image.{words}
 use Rattle.wiring.specs.Reach.{reach_from}
 use Rattle.wiring.proofs.reach.Given as goal
 
-abbrev pub invariant-loop-left : goal.invariant-loop-left
-invariant-loop-left l = (reach_from l.inputs l.count (words l.body) l.from ≡ most l.top (reach_from l.inputs l.left (words l.body) l.at))
-    × (l.at + l.left ≡ l.from + l.count)
-
-abbrev pub decreases-loop-left : goal.decreases-loop-left
-decreases-loop-left l = l.left
+abbrev pub invariant-loop-at : goal.invariant-loop-at
+invariant-loop-at l = reach_from l.inputs l.count (words l.body) l.from ≡ most l.top (reach_from l.inputs (l.from + l.count - l.at) (words l.body) l.at)

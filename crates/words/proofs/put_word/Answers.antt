@@ -1,19 +1,7 @@
--- `put_word`: each need by its law.
-use borrow.Author.Rules.{rules}
-use native.Mathlib.Omega.{arith}
-use lib.ListN.{length-set}
-use Rattle.words.specs.Stores.{put_word}
+-- `put_word`: the four bytes copied are the word's.
+use mathlib.Core.Path.{◌∙◌}
+use Rattle.words.proofs.Laws.{put_word_part}
 use Rattle.words.proofs.put_word.Goals as goal
 
-pub bounds-dst-at-2 : goal.bounds-dst-at-2
-bounds-dst-at-2 c = simp length-set (omega arith)
-
-pub bounds-dst-at-3 : goal.bounds-dst-at-3
-bounds-dst-at-3 c = simp length-set (omega arith)
-
-pub bounds-dst-at-4 : goal.bounds-dst-at-4
-bounds-dst-at-4 c = simp length-set (omega arith)
-
 pub returns : goal.returns
-unfolding put_word
-returns c = search rules
+returns c = put_word_part _ _ _ _ c.requires c.ranges.w.fits (c.copy_from_slice.ensures.after ∙ c.to_le_bytes.ensures)

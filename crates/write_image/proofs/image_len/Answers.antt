@@ -1,6 +1,5 @@
 use Prim.Native.Nat.{zero-le}
-use Rattle.laws.proofs.Turns.{turn_less}
-use Rattle.write_image.proofs.Writes.{node_held, len_none, len_next, len_fits, len_count, len_all, len_add, len_add4, len_mul}
+use Rattle.write_image.proofs.Writes.{node_held, len_none, len_next, len_fits, len_all, len_add, len_add4, len_mul}
 use Rattle.write_image.proofs.image_len.Goals as goal
 
 pub loop-v-init : goal.loop-v-init
@@ -11,12 +10,6 @@ record_len-n-requires c = node_held _ _ _ c.requires c.loop-v-test.true
 
 pub overflow_add-n : goal.overflow_add-n
 overflow_add-n c = len_fits _ _ c.requires _ _ c.loop-v.invariant c.loop-v-test.true _ c.record_len-n.ensures
-
-pub overflow_add-v : goal.overflow_add-v
-overflow_add-v c = len_count _ _ c.requires _ _ c.loop-v.invariant c.loop-v-test.true _ c.record_len-n.ensures
-
-pub loop-v-smaller : goal.loop-v-smaller
-loop-v-smaller c = turn_less c.loop-v-test.true
 
 pub loop-v-preserved : goal.loop-v-preserved
 loop-v-preserved c = len_next _ _ c.requires _ _ c.loop-v.invariant c.loop-v-test.true _ c.record_len-n.ensures

@@ -1,5 +1,5 @@
--- `image_len`: what its loop keeps, and each need by its law.
-use Prim.Native.Nat.{◌≤◌, ◌-◌}
+-- `image_len`: what its loop keeps.
+use Prim.Native.Nat.{◌≤◌}
 use mathlib.Core.Path.{◌≡◌}
 use lib.ListN.{length}
 use Rattle.model.specs.Image.{gates_words}
@@ -8,6 +8,3 @@ use Rattle.write_image.proofs.image_len.Given as goal
 
 abbrev pub invariant-loop-v : goal.invariant-loop-v
 invariant-loop-v l = (l.v ≤ l.nodes) × (l.n ≡ length (gates_words (nodes_of l.from l.v)))
-
-abbrev pub decreases-loop-v : goal.decreases-loop-v
-decreases-loop-v l = l.nodes - l.v

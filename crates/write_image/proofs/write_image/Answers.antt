@@ -1,5 +1,4 @@
 -- `write_image`: each need by its law.
-use mathlib.Core.Path.{◌∙◌}
 use Rattle.write_image.proofs.Writes.{records_room, outs_fit, end_fit, outs_asked, trailer_asked, image_laid}
 use Rattle.write_image.proofs.write_image.Goals as goal
 
@@ -17,9 +16,6 @@ overflow_add-end c = end_fit _ _ _ c.requires _ _ c.write_nodes-end.ensures
 
 pub write_trailer-requires : goal.write_trailer-requires
 write_trailer-requires c = trailer_asked _ _ _ c.requires _ _ c.write_nodes-end.ensures c.write_nodes-end.auto.out _ c.write_outputs.auto.out
-
-pub shape_of-out : goal.shape_of-out
-shape_of-out c = c.write_trailer.auto.out ∙ c.write_outputs.auto.out ∙ c.write_nodes-end.auto.out
 
 pub returns : goal.returns
 returns c = image_laid _ _ _ c.requires _ _ c.write_nodes-end.ensures _ _ c.write_outputs.ensures c.write_trailer.ensures

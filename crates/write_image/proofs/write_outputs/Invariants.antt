@@ -1,5 +1,5 @@
--- `write_outputs`: what its loop keeps, and each need by its law.
-use Prim.Native.Nat.{◌≤◌, ◌-◌}
+-- `write_outputs`: what its loop keeps.
+use Prim.Native.Nat.{◌≤◌}
 use mathlib.Core.Path.{◌≡◌}
 use lib.ListN.{length}
 use Rattle.image_trailer.specs.Trailers.{put_words}
@@ -8,6 +8,3 @@ use Rattle.write_image.proofs.write_outputs.Given as goal
 
 abbrev pub invariant-loop-j : goal.invariant-loop-j
 invariant-loop-j l = (l.j ≤ l.outs) × (length l.out ≡ length l.initial.out) × (l.out ≡ put_words l.initial.out l.at (outs_from l.from l.j))
-
-abbrev pub decreases-loop-j : goal.decreases-loop-j
-decreases-loop-j l = l.outs - l.j

@@ -1,6 +1,6 @@
 use Prim.Native.Nat.{zero-le}
 use mathlib.Core.Path.{refl}
-use Rattle.laws.proofs.Turns.{turn_less, turn_low}
+use Rattle.laws.proofs.Turns.{turn_less}
 use Rattle.dedup.proofs.Endings.{cells_none, cells_long, cells_room, cells_next, cells_end}
 use Rattle.dedup.proofs.ends.remap_cells.Goals as goal
 
@@ -15,9 +15,6 @@ translate-s-requires c = cells_long _ _ c.requires _ _ c.loop-k.invariant
 
 pub put_input-requires : goal.put_input-requires
 put_input-requires c = cells_room _ _ c.requires _ _ c.loop-k.invariant c.loop-k-test.true
-
-pub overflow_add-k : goal.overflow_add-k
-overflow_add-k c = turn_low c.loop-k-test.true c.requires.1
 
 pub loop-k-smaller : goal.loop-k-smaller
 loop-k-smaller c = turn_less c.loop-k-test.true

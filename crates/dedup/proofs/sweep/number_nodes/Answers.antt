@@ -1,7 +1,7 @@
 use Prim.Native.Nat.{zero-le}
 use mathlib.Core.Path.{refl}
 use Rattle.laws.proofs.Turns.{turn_less}
-use Rattle.dedup.proofs.Endings.{number_none, number_cast, number_node, number_word, number_count, number_next, number_end}
+use Rattle.dedup.proofs.Endings.{number_none, number_cast, number_node, number_word, number_next, number_end}
 use Rattle.dedup.proofs.sweep.number_nodes.Goals as goal
 
 pub loop-v-init : goal.loop-v-init
@@ -15,9 +15,6 @@ from_var-requires c = number_node _ _ c.requires _ _ c.loop-v.invariant c.loop-v
 
 pub put_word-requires : goal.put_word-requires
 put_word-requires c = number_word _ _ c.requires _ _ c.loop-v.invariant c.loop-v-test.true
-
-pub overflow_add-v : goal.overflow_add-v
-overflow_add-v c = number_count _ _ c.requires _ _ c.loop-v.invariant c.loop-v-test.true
 
 pub loop-v-smaller : goal.loop-v-smaller
 loop-v-smaller c = turn_less c.loop-v-test.true

@@ -1,10 +1,6 @@
 -- The loop keeps the values as `forward_to` has them.
-use Prim.Native.Nat.{◌-◌}
 use Rattle.evaluate.proofs.Turns.{Forwarded}
 use Rattle.evaluate.proofs.passes.forward.Given as goal
 
 abbrev pub invariant-loop-v : goal.invariant-loop-v
 invariant-loop-v l = Forwarded l.from l.state l.initial.to l.to l.v l.n
-
-abbrev pub decreases-loop-v : goal.decreases-loop-v
-decreases-loop-v l = l.n - l.v

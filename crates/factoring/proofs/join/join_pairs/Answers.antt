@@ -1,5 +1,5 @@
 use Rattle.laws.proofs.Turns.{turn_less}
-use Rattle.factoring.proofs.Joining.{pairs_start, pairs_two, pairs_count, pairs_step, pairs_end}
+use Rattle.factoring.proofs.Joining.{pairs_start, pairs_two, pairs_step, pairs_end}
 use Rattle.factoring.proofs.join.join_pairs.Goals as goal
 
 pub loop-j-init : goal.loop-j-init
@@ -7,9 +7,6 @@ loop-j-init c = pairs_start _ _ _ _
 
 pub join_two-requires : goal.join_two-requires
 join_two-requires c = pairs_two _ _ _ _ _ _ c.loop-j.invariant c.loop-j-test.true c.requires.1 c.requires.2 c.requires.0
-
-pub overflow_add-j : goal.overflow_add-j
-overflow_add-j c = pairs_count _ _ _ _ _ _ c.loop-j.invariant c.loop-j-test.true c.requires.1 c.requires.2
 
 pub loop-j-smaller : goal.loop-j-smaller
 loop-j-smaller c = turn_less c.loop-j-test.true

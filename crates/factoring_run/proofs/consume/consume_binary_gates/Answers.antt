@@ -1,23 +1,16 @@
 -- `consume_binary_gates`: each need by its law.
-use mathlib.Core.Path.{◌∙◌}
 use native.Mathlib.Omega.{arith}
-use Rattle.factoring.proofs.Turns.{ready_fewer, ready_next, gates_full, gates_done}
+use Rattle.factoring.proofs.Turns.{ready_fewer, ready_next, ready_of, gates_full, gates_done}
 use Rattle.factoring_run.proofs.consume.consume_binary_gates.Goals as goal
 
-pub consume_twos-r-requires : goal.consume_twos-r-requires
-consume_twos-r-requires c = c.requires
+pub returns-in_err-t : goal.returns-in_err-t
+returns-in_err-t c = rw c.from_residual.ensures (gates_full _ _ _ _ _ _ _ c.consume_twos.ensures c.in_err-t.was)
 
-pub shape_of-area-in_default : goal.shape_of-area-in_default
-shape_of-area-in_default c = c.consume_twos-r.auto.area
-
-pub returns-in_default : goal.returns-in_default
-returns-in_default c = gates_full _ _ _ _ _ _ _ c.consume_twos-r.ensures c.in_default.is
-
-pub consume_twos-requires : goal.consume_twos-requires
-consume_twos-requires c = ready_fewer _ _ _ _ _ _ (omega arith) (ready_next _ _ _ _ _ _ _ _ _ c.requires c.consume_twos-r.ensures c.in-To.is)
-
-pub shape_of-area : goal.shape_of-area
-shape_of-area c = c.consume_twos.auto.area ∙ c.consume_twos-r.auto.area
+pub consume_twos-requires-2 : goal.consume_twos-requires-2
+consume_twos-requires-2 c =
+    let r = ready_of _ _ _ _ _ c.args.p.old c.args.p.fits c.requires.laid c.requires.more in
+    let s = ready_fewer _ _ _ _ _ _ (omega arith) (ready_next _ _ _ _ _ _ _ _ _ r c.consume_twos.ensures c.in_ok-t.was) in
+    record { laid = s.laid; more = s.more }
 
 pub returns : goal.returns
-returns c = gates_done _ _ _ _ _ _ _ c.consume_twos-r.ensures _ c.in-To.is _ _ c.consume_twos.ensures
+returns c = gates_done _ _ _ _ _ _ _ c.consume_twos.ensures _ c.in_ok-t.was _ _ c.consume_twos-2.ensures

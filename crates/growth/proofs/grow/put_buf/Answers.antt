@@ -6,9 +6,6 @@ use Rattle.growth.proofs.grow.put_buf.Goals as goal
 pub put_input-requires : goal.put_input-requires
 put_input-requires c = search (rules, puts)
 
-pub code-requires : goal.code-requires
-code-requires c = search (rules, puts)
-
 pub overflow_cast-at : goal.overflow_cast-at
 overflow_cast-at c = search (rules, puts)
 

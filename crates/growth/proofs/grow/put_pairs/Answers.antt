@@ -30,9 +30,6 @@ overflow_add-at c = search (rules, pairings)
 pub put_two-requires : goal.put_two-requires
 put_two-requires c = search (rules, pairings)
 
-pub overflow_add-j : goal.overflow_add-j
-overflow_add-j c = search (rules, pairings)
-
 pub loop-j-smaller : goal.loop-j-smaller
 loop-j-smaller c = search (rules, pairings)
 

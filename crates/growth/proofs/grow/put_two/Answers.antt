@@ -15,9 +15,6 @@ put_input-requires-2 c = search (rules, puts)
 pub two-requires : goal.two-requires
 two-requires c = search (rules, puts)
 
-pub code-requires : goal.code-requires
-code-requires c = search (rules, puts)
-
 pub overflow_cast-at : goal.overflow_cast-at
 overflow_cast-at c = search (rules, puts)
 

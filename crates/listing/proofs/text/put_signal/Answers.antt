@@ -6,14 +6,8 @@ use Rattle.listing.proofs.text.put_signal.Goals as goal
 pub returns-then-is_constant : goal.returns-then-is_constant
 returns-then-is_constant c = search (rules, signals)
 
-pub input-requires : goal.input-requires
-input-requires c = search (rules, signals)
-
 pub returns-then-is_input : goal.returns-then-is_input
 returns-then-is_input c = search (rules, signals)
-
-pub var-requires : goal.var-requires
-var-requires c = search (rules, signals)
 
 pub returns : goal.returns
 returns c = search (rules, signals)

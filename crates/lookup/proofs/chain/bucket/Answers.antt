@@ -7,4 +7,4 @@ pub stir-requires : goal.stir-requires
 stir-requires c = rw c.stir_inputs.ensures (stirred_small _ _ _ (omega arith))
 
 pub returns : goal.returns
-returns c = rw (c.stir.ensures, c.stir_inputs.ensures, c.wide.ensures, c.wide-2.ensures) (bucket_listed _ _ _ _ _)
+returns c = rw (c.stir.ensures, c.stir_inputs.ensures) (bucket_listed _ _)

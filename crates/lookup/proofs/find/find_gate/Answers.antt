@@ -1,32 +1,23 @@
-use mathlib.Core.Path.{refl}
+-- `find_gate`: each need by its law.
 use native.Mathlib.Omega.{arith}
-use Rattle.same_gate.proofs.Searches.{searched_less}
-use Rattle.lookup.proofs.Chains.{seek_small, seek_start, seek_less, seek_next, seek_nothing, seek_found}
+use Rattle.lookup.proofs.Chains.{seek_small, seek_start, seek_less, seek_next, seek_end}
 use Rattle.lookup.proofs.find.find_gate.Goals as goal
+use Rattle.lookup.proofs.find.find_gate.Goals.{then-same_gate, else-same_gate}
 
-pub number-p-requires : goal.number-p-requires
-number-p-requires c = omega (arith, c.requires.searched.long, seek_small _ _ _ _ c.requires)
+pub node_at-at-requires : goal.node_at-at-requires
+node_at-at-requires c = omega (arith, c.requires.searched.long, seek_small _ _ _ _ c.requires)
 
-pub loop-p-init : goal.loop-p-init
-loop-p-init c = seek_start _ _ _ _ c.requires _ c.number-p.ensures
+pub loop-at-init : goal.loop-at-init
+loop-at-init c = seek_start _ _ _ _ c.requires _ c.node_at-at.ensures
 
-pub same_gate-same-requires : goal.same_gate-same-requires
-same_gate-same-requires c = searched_less _ _ _ c.requires.searched (omega (arith, c.loop-p.invariant.inside))
+pub loop-at-smaller : goal.loop-at-smaller
+loop-at-smaller c = seek_less _ _ _ _ c.requires _ _ c.in-Some.is _ c.loop-at.invariant _ c.node_at-at-in-Some.ensures
 
-pub kept-found-requires : goal.kept-found-requires
-kept-found-requires c = tt
-
-pub number-p-requires-in-loop-p : goal.number-p-requires-in-loop-p
-number-p-requires-in-loop-p c = omega (arith, c.requires.searched.long, c.requires.searched.few, c.loop-p.invariant.inside)
-
-pub loop-p-smaller : goal.loop-p-smaller
-loop-p-smaller c = seek_less _ _ _ _ c.requires _ _ c.loop-p.invariant (omega arith) _ c.number-p-in-loop-p.ensures
-
-pub loop-p-preserved : goal.loop-p-preserved
-loop-p-preserved c = seek_next _ _ _ _ c.requires _ _ c.loop-p.invariant (omega arith) _ c.number-p-in-loop-p.ensures _ _ c.same_gate-same.ensures c.kept-found.ensures
-
-pub returns-then-found-eq0 : goal.returns-then-found-eq0
-returns-then-found-eq0 c = seek_nothing _ _ _ _ c.requires _ _ c.loop-p.invariant (omega arith) _ refl c.if-found-eq0.true
+pub loop-at-preserved : goal.loop-at-preserved
+loop-at-preserved c = elim c.if-same_gate.branch [
+  | then-same_gate w ↦ seek_next _ _ _ _ c.requires _ _ c.in-Some.is _ c.loop-at.invariant _ c.node_at-at-in-Some.ensures _ _ c.same_gate.ensures (rw w.if-same_gate.true w.found-is)
+  | else-same_gate w ↦ seek_next _ _ _ _ c.requires _ _ c.in-Some.is _ c.loop-at.invariant _ c.node_at-at-in-Some.ensures _ _ c.same_gate.ensures (rw w.if-same_gate.false w.found-is)
+]
 
 pub returns : goal.returns
-returns c = seek_found _ _ _ _ c.requires _ _ c.loop-p.invariant (omega arith) _ _ refl c.if-found-eq0.false refl
+returns c = seek_end _ _ _ _ c.requires _ _ c.in_default.is c.loop-at.invariant

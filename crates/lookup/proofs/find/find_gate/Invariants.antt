@@ -1,10 +1,11 @@
--- `find_gate`: what its loop keeps, and each need by its law.
+-- `find_gate`: what its loop keeps, and what falls.
 use Rattle.same_gate.specs.Listed.{listed}
+use Rattle.lookup.specs.Lists.{counted}
 use Rattle.lookup.proofs.Chains.{Seeking}
 use Rattle.lookup.proofs.find.find_gate.Given as goal
 
-abbrev pub invariant-loop-p : goal.invariant-loop-p
-invariant-loop-p l = Seeking l.to l.nodes l.h (listed l.to l.kind l.n l.low l.high) l.p l.found
+abbrev pub invariant-loop-at : goal.invariant-loop-at
+invariant-loop-at l = Seeking l.to l.nodes l.h (listed l.to l.g) (counted l.at) l.found
 
-abbrev pub decreases-loop-p : goal.decreases-loop-p
-decreases-loop-p l = l.p
+abbrev pub decreases-loop-at : goal.decreases-loop-at
+decreases-loop-at l = counted l.at

@@ -1,10 +1,15 @@
--- `sort`: each need by its law.
+-- `sort`: its work gets long areas, and what `lend` gives is the promise.
+use borrow.Author.Rules.{rules}
 use Rattle.model.specs.Entries.{sort_outcome}
-use Rattle.network_work.specs.Works.{sort_work}
+use Rattle.tables.specs.Working.{Areas}
 use Rattle.network_passes.specs.Passes.{sort_pass}
-use Rattle.network_work.specs.Tasks.{work_of}
+use Rattle.network_work.specs.Works.{sort_work}
+use Rattle.lending.proofs.Entered.{lent_areas, entered2}
 use Rattle.network.proofs.sort.sort.Goals as goal
 
+pub lend-requires : goal.lend-requires
+lend-requires c = λ h o s p q i j k l. let m = lent_areas _ _ h _ _ k l in search rules
+
 pub returns : goal.returns
-unfolding sort_outcome work_of sort_work sort_pass
-returns c = c.enter.ensures
+unfolding sort_outcome sort_work sort_pass
+returns c = entered2 _ _ _ _ _ _ _ _ _ _ c.lend.ensures.short (λ h. let g = c.lend.ensures.gives h in search rules) c.lend.ensures.cleared

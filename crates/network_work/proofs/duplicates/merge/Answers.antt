@@ -1,37 +1,18 @@
--- `merge`: each need by its law.
-use borrow.Author.Rules.{rules}
-use Rattle.network_work.proofs.Merging.{merged}
+-- `merge`: what loading answered, or what the pass makes of the network.
+use Rattle.std.proofs.lemmas.Result.{err_from_is_err_and}
+use Rattle.network_work.specs.Works.{dedup_pass, dedup_work}
+use Rattle.network_work.proofs.Mappings.{load_refused, load_passed}
+use Rattle.network_work.proofs.Merging.{dedup_asks}
 use Rattle.network_work.proofs.duplicates.merge.Goals as goal
 
-pub load_sorted-l-requires : goal.load_sorted-l-requires
-load_sorted-l-requires c = search (rules, merged)
-
-pub enum_known-l : goal.enum_known-l
-enum_known-l c = search (rules, merged)
-
-pub enum_known-l-in-Network-1 : goal.enum_known-l-in-Network-1
-enum_known-l-in-Network-1 c = search (rules, merged)
+pub returns-in_err-c : goal.returns-in_err-c
+unfolding dedup_work dedup_pass
+returns-in_err-c c = let p = err_from_is_err_and c.from_residual.result c.from_residual.ensures.1 in
+    load_refused _ _ _ _ c.in_err-c.ensures _ _ p.1 p.2 _ _ _
 
 pub pass-requires : goal.pass-requires
-pass-requires c = search (rules, merged)
+pass-requires c = dedup_asks _ _ _ c.in_ok-c.ensures _ c.requires.long_b
 
-pub shape_of-a-in-Refused : goal.shape_of-a-in-Refused
-shape_of-a-in-Refused c = search (rules, merged)
-
-pub returns-in-Refused : goal.returns-in-Refused
-returns-in-Refused c = search (rules, merged)
-
-pub shape_of-out : goal.shape_of-out
-shape_of-out c = search (rules, merged)
-
-pub shape_of-map : goal.shape_of-map
-shape_of-map c = search (rules, merged)
-
-pub shape_of-a-in-Network : goal.shape_of-a-in-Network
-shape_of-a-in-Network c = search (rules, merged)
-
-pub shape_of-b : goal.shape_of-b
-shape_of-b c = search (rules, merged)
-
-pub returns-in-Network : goal.returns-in-Network
-returns-in-Network c = search (rules, merged)
+pub returns : goal.returns
+unfolding dedup_work dedup_pass
+returns c = load_passed _ _ _ _ c.in_ok-c.ensures (dedup_pass c.args.canonical) _ _ _ _ _ c.pass.ensures

@@ -1,37 +1,18 @@
--- `sort`: each need by its law.
-use borrow.Author.Rules.{rules}
-use Rattle.network_work.proofs.Mappings.{mapped}
+-- `sort`: what loading answered, or what the pass makes of the network.
+use Rattle.std.proofs.lemmas.Result.{err_from_is_err_and}
+use Rattle.network_passes.specs.Passes.{sort_pass}
+use Rattle.network_work.specs.Works.{sort_work}
+use Rattle.network_work.proofs.Mappings.{load_refused, load_passable, load_passed}
 use Rattle.network_work.proofs.sorting.sort.Goals as goal
 
-pub load_image-l-requires : goal.load_image-l-requires
-load_image-l-requires c = search (rules, mapped)
-
-pub enum_known-l : goal.enum_known-l
-enum_known-l c = search (rules, mapped)
-
-pub enum_known-l-in-Network-1 : goal.enum_known-l-in-Network-1
-enum_known-l-in-Network-1 c = search (rules, mapped)
+pub returns-in_err-c : goal.returns-in_err-c
+unfolding sort_work
+returns-in_err-c c = let p = err_from_is_err_and c.from_residual.result c.from_residual.ensures.1 in
+    load_refused _ _ _ _ c.in_err-c.ensures _ _ p.1 p.2 _ _ _
 
 pub sort_pass-requires : goal.sort_pass-requires
-sort_pass-requires c = search (rules, mapped)
+sort_pass-requires c = load_passable _ _ _ _ c.in_ok-c.ensures _ c.requires.long_b
 
-pub shape_of-a-in-Refused : goal.shape_of-a-in-Refused
-shape_of-a-in-Refused c = search (rules, mapped)
-
-pub returns-in-Refused : goal.returns-in-Refused
-returns-in-Refused c = search (rules, mapped)
-
-pub shape_of-out : goal.shape_of-out
-shape_of-out c = search (rules, mapped)
-
-pub shape_of-map : goal.shape_of-map
-shape_of-map c = search (rules, mapped)
-
-pub shape_of-a-in-Network : goal.shape_of-a-in-Network
-shape_of-a-in-Network c = search (rules, mapped)
-
-pub shape_of-b : goal.shape_of-b
-shape_of-b c = search (rules, mapped)
-
-pub returns-in-Network : goal.returns-in-Network
-returns-in-Network c = search (rules, mapped)
+pub returns : goal.returns
+unfolding sort_work
+returns c = load_passed _ _ _ _ c.in_ok-c.ensures sort_pass _ _ _ _ _ c.sort_pass.ensures

@@ -1,9 +1,6 @@
 -- `number`: what its loop keeps.
-use Rattle.std.proofs.Common.{◌-◌, ◌<◌, length}
+use Rattle.std.proofs.Common.{◌<◌}
 use Rattle.recorded.proofs.hand.number.Given as goal
 
-abbrev pub invariant-loop-i : goal.invariant-loop-i
-invariant-loop-i l = l.n < 4294967296
-
-abbrev pub decreases-loop-i : goal.decreases-loop-i
-decreases-loop-i l = length l.digits - l.i
+abbrev pub invariant-loop-c : goal.invariant-loop-c
+invariant-loop-c l = l.n < 4294967296

@@ -6,6 +6,3 @@ use Rattle.topo_sort.proofs.order.put_flip_flops.Given as goal
 
 abbrev pub invariant-loop-i : goal.invariant-loop-i
 invariant-loop-i l = (length l.to ≡ length l.initial.to) × Flips l.from l.to l.c l.i l.at
-
-abbrev pub decreases-loop-i : goal.decreases-loop-i
-decreases-loop-i l = l.i

@@ -3,20 +3,11 @@ use borrow.Author.Rules.{rules}
 use Rattle.uses.proofs.Picking.{ones}
 use Rattle.uses.proofs.load.pick_one.Goals as goal
 
-pub is_once-requires : goal.is_once-requires
-is_once-requires c = search (rules, ones)
-
-pub shape_of-to-then-is_once-once : goal.shape_of-to-then-is_once-once
-shape_of-to-then-is_once-once c = search (rules, ones)
-
 pub returns-then-is_once-once : goal.returns-then-is_once-once
 returns-then-is_once-once c = search (rules, ones)
 
 pub put_sig-requires : goal.put_sig-requires
 put_sig-requires c = search (rules, ones)
-
-pub shape_of-to : goal.shape_of-to
-shape_of-to c = search (rules, ones)
 
 pub returns : goal.returns
 returns c = search (rules, ones)

@@ -1,6 +1,5 @@
 -- `pick_signals`: what its loop keeps, and each need by its law.
 use Prim.Native.Nat.{◌-◌}
-use Rattle.model.specs.Sharing.{once}
 use Rattle.uses.proofs.Picking.{Picking}
 use Rattle.uses.proofs.load.pick_signals.Given as goal
 

@@ -1,0 +1,11 @@
+-- `consume_twos`: what its loop keeps, and each need by its law.
+use Prim.Native.Nat.{◌-◌}
+use Rattle.model.specs.Sharing.{binaries}
+use Rattle.factoring.proofs.Turns.{Walked}
+use Rattle.factoring.proofs.Factoring.consume_twos.Given as goal
+
+abbrev pub invariant-loop-i : goal.invariant-loop-i
+invariant-loop-i l = Walked binaries l.initial.area l.area l.self.gates l.self.nodes l.k l.self.room l.m l.i
+
+abbrev pub decreases-loop-i : goal.decreases-loop-i
+decreases-loop-i l = l.self.gates - l.i

@@ -1,9 +1,0 @@
--- `behind_colon`: what its loop keeps.
-use Rattle.std.proofs.Common.{◌≤◌}
-use Rattle.recorded.proofs.hand.behind_colon.Given as goal
-
-abbrev pub invariant-loop-i : goal.invariant-loop-i
-invariant-loop-i l = l.i ≤ l.n
-
-abbrev pub decreases-loop-i : goal.decreases-loop-i
-decreases-loop-i l = l.i

@@ -1,7 +1,0 @@
--- `without_inversion`: each need by its law.
-use borrow.Author.Rules.{rules}
-use Rattle.signal.proofs.Masks.{masks}
-use Rattle.signal.proofs.Signal.without_inversion.Goals as goal
-
-pub returns : goal.returns
-returns c = search (rules, masks)
