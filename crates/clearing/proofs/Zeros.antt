@@ -58,9 +58,9 @@ module _ (d : List ℕ) (h : 16384 ≤ length d) where
   fronts_none = record { few = omega arith; long = refl; is = refl }
 
   module _ (l : List ℕ) (k : ℕ) (p : Fronts d l k) where
-    pub fronts_more : (n : ℕ) (b m : List ℕ) → k < 128 → n ≡ 128 * k + 128 - 128 * k → b ≡ replicate (length (mid_of (128 * k) n l)) 0
+    pub fronts_part : (n : ℕ) (b m : List ℕ) → k < 128 → n ≡ 128 * k + 128 - 128 * k → b ≡ replicate (length (mid_of (128 * k) n l)) 0
         → m ≡ put_mid (128 * k) n l b → length m ≡ length l → Fronts d m (k + 1)
-    fronts_more n b m c e f g s =
+    fronts_part n b m c e f g s =
         let z : 128 * k + 128 ≡ 128 * (k + 1) = omega arith in
         let y : n ≡ 128 = omega arith in
         let w : length (mid_of (128 * k) n l) ≡ n = length-take-le n (drop (128 * k) l) (rw (length-drop, p.long, y) (omega arith)) in

@@ -1,6 +1,6 @@
 -- What the flip-flops' pass asks and leaves, with premises as the code meets them.
 use mathlib.Core.Path.{◌≡◌, sym, ap, ◌∙◌}
-use Prim.Native.Nat.{ℕ, ◌+◌, ◌<◌}
+use Prim.Native.Nat.{ℕ, ◌+◌, ◌≤◌, ◌<◌}
 use native.Mathlib.Omega.{arith}
 use mathlib.Core.Bool.{Bool, true, false, not, cond, ◌&&◌}
 use mathlib.Core.List.{List}
@@ -15,25 +15,25 @@ use Rattle.laws.specs.Bools.{bit}
 use Rattle.laws.proofs.Bools.{and_right, taut2}
 use Rattle.model.specs.Gate.{fits_kind, fits_code}
 use Rattle.model.specs.Evaluate.{next_state}
-use Rattle.tables.specs.Layout.{kind_at, first_at, count_at, input_at}
-use Rattle.signal_values.specs.Signals.{value_at, dff_at, Reads}
+use Rattle.tables.specs.Layout.{kind_at, count_at}
+use Rattle.signal_values.specs.Signals.{input_value, dff_at, Gated}
+use Rattle.signal_values.specs.Inputs.{InputsOf}
+use Rattle.signal_values.specs.declared.gate_inputs.Inputs.{Inputs}
 use Rattle.signal_values.proofs.Bits.{byte_bit}
-use Rattle.signal_values.proofs.Turns.{input_is, input_first}
-use Rattle.flip_flops.specs.Storing.{new_state, new_byte, Passing}
+use Rattle.flip_flops.specs.Storing.{new_state, stored, new_byte, Passing}
 use Rattle.flip_flops.proofs.Filling.{Filled, filled_put, filled_reads, filled_skip, filled_none, filled_all}
 
 -- ---- a flip-flop's inputs: en, then d and res
 
-module _ (f t : List ℕ) (first y : ℕ) (en q : Bool) (b : y ≡ input_at f (first + 1)) (b' : en ≡ value_at t y) where
+module _ (f t : List ℕ) (first : ℕ) (en q : Bool) (p : en ≡ input_value f t first 1) where
   pub state_holds : not en ≡ true → q ≡ new_state f t first q
   unfolding new_state next_state
-  state_holds e = rw (← input_is f t first 1 y en b b', not-true en e)
+  state_holds e = rw (← p, not-true en e)
 
-  pub state_stores : not en ≡ false → (x z : ℕ) (d res : Bool) → x ≡ input_at f first → d ≡ value_at t x → z ≡ input_at f (first + 2) → res ≡ value_at t z
-      → (d && not res) ≡ new_state f t first q
+  pub state_stores : not en ≡ false → (d res : Bool) → d ≡ input_value f t first 0 → res ≡ input_value f t first 2 → (d && not res) ≡ new_state f t first q
   unfolding new_state next_state
-  state_stores e x z d res a a' c c' =
-      rw (← input_first f t first x d a a', ← input_is f t first 1 y en b b', ← input_is f t first 2 z res c c', not-false en e)
+  state_stores e d res a c =
+      rw (← a, ← p, ← c, not-false en e)
       (taut2 (λ d res. d && not res) (λ d res. cond res false d) tt d res)
 
 -- node v is no flip-flop: its byte stays; it is one: its new byte
@@ -44,13 +44,13 @@ state_stays f t st l v n b h r p e =
     let d : dff_at f v ≡ false = sym p ∙ e in
     filled_skip (new_byte f t st) st l v n h r (rw d)
 
-pub state_goes : (f t st l : List ℕ) (v n first x : ℕ) (b q : Bool) → Filled (new_byte f t st) st l v n → v < n → b ≡ dff_at f v → b ≡ true
-    → first ≡ first_at f v → q ≡ new_state f t first (eqb (get_or l v 0) 1) → x ≡ bool_byte q → Filled (new_byte f t st) st (set l v x) (v + 1) n
+pub state_goes : (f t st l : List ℕ) (v n x : ℕ) (g : Inputs) (b q : Bool) → Filled (new_byte f t st) st l v n → v < n → b ≡ dff_at f v → b ≡ true
+    → InputsOf f t v g → q ≡ stored g (eqb (get_or l v 0) 1) → x ≡ bool_byte q → Filled (new_byte f t st) st (set l v x) (v + 1) n
 unfolding new_byte
-state_goes f t st l v n first x b q h r p e a y z =
+state_goes f t st l v n x g b q h r p e a y z =
     let d : dff_at f v ≡ true = sym p ∙ e in
     let w : get_or l v 0 ≡ get_or st v 0 = filled_reads (new_byte f t st) st l v n h r in
-    filled_put (new_byte f t st) st l v n x h r (z ∙ byte_bit q ∙ ap bit y ∙ rw (d, a, w))
+    filled_put (new_byte f t st) st l v n x h r (z ∙ byte_bit q ∙ ap bit y ∙ rw (d, a.net, a.values, a.start, w))
 
 clash : {X : Type 0} → false ≡ true → X
 clash e = let z : ◌≡◌ {A = ℕ} 0 1 = cc in absurd (omega arith)
@@ -73,11 +73,14 @@ three_inputs XnorN n d f = clash d
 three_inputs Buf n d f = clash d
 three_inputs Lut n d f = clash d
 
-pub dff_reads : (f t st : List ℕ) (v n first : ℕ) (b : Bool) → Passing f t st n → v < n → b ≡ dff_at f v → b ≡ true → first ≡ first_at f v → Reads f t first 3
+pub dff_inputs : (f t st : List ℕ) (v n : ℕ) (g : Inputs) (b : Bool) → Passing f t st n → v < n → b ≡ dff_at f v → b ≡ true → InputsOf f t v g → 3 ≤ g.count
 unfolding dff_at fits_code
-dff_reads f t st v n first b h l p e a =
-    let g = h.gates v l in
-    let c : count_at f v ≡ 3 = three_inputs (kind_of (kind_at f v)) (count_at f v) (sym p ∙ e) (and_right (ltb (kind_at f v) 15) _ g.fits) in
-    record { long = g.reads.long; room = g.reads.room; ends = rw (a, ← c) g.reads.ends }
+dff_inputs f t st v n g b h l p e a =
+    let c : count_at f v ≡ 3 = three_inputs (kind_of (kind_at f v)) (count_at f v) (sym p ∙ e) (and_right (ltb (kind_at f v) 15) _ (h.gates v l).fits) in
+    let d = a.number in
+    omega arith
 
-pub ruleset turns = (filled_none, filled_all, dff_reads, state_stays, state_goes)
+pub dff_gated : (f t st : List ℕ) (v n : ℕ) → Passing f t st n → v < n → Gated f t v
+dff_gated f t st v n h l = h.gates v l
+
+pub ruleset turns = (filled_none, filled_all, dff_inputs, dff_gated, state_stays, state_goes)

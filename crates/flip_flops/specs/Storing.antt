@@ -4,10 +4,14 @@ use Rattle.laws.specs.Bools.{bit}
 use Rattle.model.specs.Evaluate.{next_state, truths}
 use Rattle.tables.specs.Layout.{net_size, first_at}
 use Rattle.signal_values.specs.Signals.{values_end, input_value, dff_at, Gated}
+use Rattle.signal_values.specs.declared.gate_inputs.Inputs.{Inputs}
 
--- the flip-flop whose inputs begin at `first`, and node v's state byte
+-- the flip-flop whose inputs begin at `first`, the same by the inputs themselves, and node v's state byte
 unfoldable pub new_state : List ℕ → List ℕ → ℕ → Bool → Bool
 new_state f t first q = next_state (input_value f t first 0 ∷ input_value f t first 1 ∷ input_value f t first 2 ∷ []) q
+
+abbrev pub stored : Inputs → Bool → Bool
+stored g q = new_state g.from.now g.to.now g.first q
 
 unfoldable pub new_byte : List ℕ → List ℕ → List ℕ → ℕ → ℕ
 new_byte f t st v = cond (dff_at f v) (bit (new_state f t (first_at f v) (truths st v))) (get_or st v 0)

@@ -23,6 +23,7 @@ fn place_of(img: &[u8], k: u32) -> Option<Range<usize>>
 }
 
 // The byte of the image where record k begins; 0 if there is none.
+// stays: 0, and an empty part below, are what the public entry promises and what C gets.
 pub fn record_at(img: &[u8], k: u32) -> usize
     ensures { result ≡ record_at_of img.now k }
 {

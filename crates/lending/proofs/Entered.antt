@@ -9,7 +9,7 @@ use Rattle.std.specs.Prelude.{Result, Err}
 use Rattle.refusals.specs.Numbers.{numbered}
 use Rattle.refusals.specs.declared.Refusal.{Refusal}
 use Rattle.refusals.specs.declared.Refusal.TheVariants as refusal
-use Rattle.model.specs.Answers.{Outcome, areas_short, in_areas, area_after, result_after, second_after, Kept, Kept2}
+use Rattle.model.specs.Answers.{Outcome, areas_short, in_areas, area_after, Kept, Kept2}
 use Rattle.tables.specs.Working.{Areas, Cleared, Answered, Answered2}
 use Rattle.tables.proofs.Entering.{part_long, long_a, long_b}
 use Rattle.lending.specs.Lending.{Untouched}

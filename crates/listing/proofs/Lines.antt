@@ -1,7 +1,7 @@
 -- The laws of fields and lines as the code meets them.
 use mathlib.Core.Path.{◌≡◌, refl, sym, ap, ◌∙◌}
 use mathlib.Core.Logic.{◌≢◌}
-use Prim.Native.Nat.{ℕ, suc, ◌+◌, ◌*◌, ◌≤◌, ◌<◌, ◌^◌}
+use Prim.Native.Nat.{ℕ, suc, ◌+◌, ◌*◌, ◌≤◌, ◌<◌}
 use native.Mathlib.Omega.{arith}
 use native.Mathlib.Numerals.{add-one}
 use mathlib.Core.List.{List, [], ◌∷◌, ◌++◌, map, map-append, append_assoc, append-nil}
@@ -17,8 +17,9 @@ use Rattle.tables.specs.Holding.{network_of, Held}
 use Rattle.tables.specs.declared.counts.Counts.{Counts}
 use Rattle.tables.proofs.Holding.{length_nodes_of, length_outputs_of, nodes_few, outs_few}
 use Rattle.listing.specs.Fields.{Node, Outputs, head_text, inputs_text}
-use Rattle.text_parts.specs.Putting.{Put}
-use Rattle.text_parts.proofs.Puts.{put_none, put_then, put_as}
+use Rattle.text_parts.specs.Putting.{Wrote}
+use Rattle.text_parts.specs.declared.Text.{Text}
+use Rattle.text_parts.proofs.Puts.{wrote_none, wrote_then, wrote_as}
 
 pub spaced_append : (xs ys : List (List ℕ)) → spaced (xs ++ ys) ≡ spaced xs ++ spaced ys
 unfolding spaced
@@ -44,57 +45,56 @@ numbered_tab f g n =
 to_right : (a b c d : List ℕ) → ((a ++ b) ++ c) ++ d ≡ a ++ (b ++ (c ++ d))
 to_right a b c d = append_assoc (a ++ b) c d ∙ append_assoc a b (c ++ d)
 
-pub counts_put : (i n o : ℕ) {b : List ℕ} {at : ℕ} {b1 b2 b3 b4 : List ℕ} {p1 p2 p3 r : ℕ} → length b < 2 ^ 64
-    → Put b at (ascii "inputs " ++ decimal i) b1 p1 → Put b1 p1 (ascii " nodes " ++ decimal n) b2 p2
-    → Put b2 p2 (ascii " outputs " ++ decimal o) b3 p3 → Put b3 p3 (ascii "\n") b4 r → Put b at (counts_line i n o) b4 r
+pub counts_put : (i n o : ℕ) {t t1 t2 t3 t4 : Text} → Wrote t (ascii "inputs " ++ decimal i) t1 → Wrote t1 (ascii " nodes " ++ decimal n) t2
+    → Wrote t2 (ascii " outputs " ++ decimal o) t3 → Wrote t3 (ascii "\n") t4 → Wrote t (counts_line i n o) t4
 unfolding counts_line line spaced
-counts_put i n o l P1 P2 P3 P4 =
+counts_put i n o P1 P2 P3 P4 =
     let e = to_right (ascii "inputs " ++ decimal i) (ascii " nodes " ++ decimal n) (ascii " outputs " ++ decimal o) (ascii "\n") in
-    put_as (e ∙ simp append_assoc) (put_then l (put_then l (put_then l P1 P2) P3) P4)
+    wrote_as (e ∙ simp append_assoc) (wrote_then (wrote_then (wrote_then P1 P2) P3) P4)
 
 -- ---- put_inputs
 
-module _ (l : List ℕ) (first : ℕ) (b : List ℕ) (at : ℕ) where
-  pub inputs_none : at < 2 ^ 64 → Put b at (inputs_text l first 0) b at
+module _ (l : List ℕ) (first : ℕ) (t : Text) where
+  pub inputs_none : Wrote t (inputs_text l first 0) t
   unfolding inputs_text tab spaced
-  inputs_none h = put_none b at h
+  inputs_none = wrote_none t
 
-  pub inputs_next : (j s : ℕ) {b1 b2 b3 : List ℕ} {p q r : ℕ} → length b < 2 ^ 64 → s ≡ input_at l (first + j) → Put b at (inputs_text l first j) b1 p
-      → Put b1 p (32 ∷ []) b2 q → Put b2 q (signal_text s) b3 r → Put b at (inputs_text l first (j + 1)) b3 r
+  pub inputs_next : (j s : ℕ) {t1 t2 t3 : Text} → s ≡ input_at l (first + j) → Wrote t (inputs_text l first j) t1 → Wrote t1 (32 ∷ []) t2
+      → Wrote t2 (signal_text s) t3 → Wrote t (inputs_text l first (j + 1)) t3
   unfolding inputs_text tab spaced
-  inputs_next j s h e P S Q =
+  inputs_next j s e P S Q =
       let f : ℕ → ℕ = λ i. input_at l (first + i) in
       let z : spaced (signal_text (f j) ∷ []) ≡ 32 ∷ signal_text s = rw (← e) (append-nil (32 ∷ signal_text s)) in
       let w : spaced (map signal_text (tab f (suc j))) ≡ spaced (map signal_text (tab f j)) ++ (32 ∷ signal_text s) =
       ap spaced (map-append signal_text (tab f j) (f j ∷ [])) ∙ spaced_append (map signal_text (tab f j)) (signal_text (f j) ∷ [])
       ∙ ap (λ (x : List ℕ). spaced (map signal_text (tab f j)) ++ x) z in
-      put_as (append_assoc (spaced (map signal_text (tab f j))) (32 ∷ []) (signal_text s) ∙ sym w ∙ ap (λ (m : ℕ). spaced (map signal_text (tab f m))) (sym (add-one j))) (put_then h (put_then h P S) Q)
+      wrote_as (append_assoc (spaced (map signal_text (tab f j))) (32 ∷ []) (signal_text s) ∙ sym w ∙ ap (λ (m : ℕ). spaced (map signal_text (tab f m))) (sym (add-one j))) (wrote_then (wrote_then P S) Q)
 
-  pub inputs_end : (j n : ℕ) (b1 : List ℕ) (p : ℕ) → n ≤ j → j ≤ n → Put b at (inputs_text l first j) b1 p → Put b at (inputs_text l first n) b1 p
-  inputs_end j n b1 p h k P = let e : j ≡ n = omega arith in rw (← e) P
+  pub inputs_end : (j n : ℕ) (t1 : Text) → n ≤ j → j ≤ n → Wrote t (inputs_text l first j) t1 → Wrote t (inputs_text l first n) t1
+  inputs_end j n t1 h k P = let e : j ≡ n = omega arith in rw (← e) P
 
 pub ruleset inputs = (inputs_none, inputs_next, inputs_end)
 
 -- ---- put_table and put_node
 
-module _ (l : List ℕ) (v : ℕ) (b : List ℕ) (at k : ℕ) (q : k ≡ kind_at l v) where
-  pub table_none : k ≢ 14 → at < 2 ^ 64 → Put b at (spaced (table_fields (gate_at l v))) b at
+module _ (l : List ℕ) (v : ℕ) (t : Text) (k : ℕ) (q : k ≡ kind_at l v) where
+  pub table_none : k ≢ 14 → Wrote t (spaced (table_fields (gate_at l v))) t
   unfolding table_fields gate_at spaced
-  table_none d h = rw (ne_eqb (kind_at l v) 14 (λ e. d (q ∙ e))) (put_none b at h)
+  table_none d = rw (ne_eqb (kind_at l v) 14 (λ e. d (q ∙ e))) (wrote_none t)
 
-  pub table_put : k ≡ 14 → length b < 2 ^ 64 → (low high t : ℕ) → low ≡ low_at l v → high ≡ high_at l v → t ≡ low + 4294967296 * high
-      → (b1 b2 : List ℕ) (p r : ℕ) → Put b1 p (decimal t) b2 r → Put b at (32 ∷ []) b1 p → Put b at (spaced (table_fields (gate_at l v))) b2 r
+  pub table_put : k ≡ 14 → (low high n : ℕ) → low ≡ low_at l v → high ≡ high_at l v → n ≡ low + 4294967296 * high
+      → (t1 t2 : Text) → Wrote t1 (decimal n) t2 → Wrote t (32 ∷ []) t1 → Wrote t (spaced (table_fields (gate_at l v))) t2
   unfolding table_fields gate_at spaced
-  table_put e h low high t f g w b1 b2 p r Q P =
-      let z : low_at l v + 4294967296 * high_at l v ≡ t = sym (w ∙ rw (f, g)) in
-      rw (eq-eqb (kind_at l v) 14 (sym q ∙ e), z) (put_as (sym (append-nil (32 ∷ decimal t))) (put_then h P Q))
+  table_put e low high n f g w t1 t2 Q P =
+      let z : low_at l v + 4294967296 * high_at l v ≡ n = sym (w ∙ rw (f, g)) in
+      rw (eq-eqb (kind_at l v) 14 (sym q ∙ e), z) (wrote_as (sym (append-nil (32 ∷ decimal n))) (wrote_then P Q))
 
 pub ruleset tables = (table_none, table_put)
 
-pub head_put : (v k : ℕ) (K : Kind) {b : List ℕ} {at : ℕ} {b1 b2 b3 : List ℕ} {p1 p2 r : ℕ} → length b < 2 ^ 64 → K ≡ kind_of k
-    → Put b at (120 ∷ decimal v) b1 p1 → Put b1 p1 (32 ∷ []) b2 p2 → Put b2 p2 (kind_text K) b3 r → Put b at (head_text v k) b3 r
+pub head_put : (v k : ℕ) (K : Kind) {t t1 t2 t3 : Text} → K ≡ kind_of k → Wrote t (120 ∷ decimal v) t1 → Wrote t1 (32 ∷ []) t2
+    → Wrote t2 (kind_text K) t3 → Wrote t (head_text v k) t3
 unfolding head_text
-head_put v k K h f P1 P2 P3 = rw (← f) (put_as (append_assoc (120 ∷ decimal v) (32 ∷ []) (kind_text K)) (put_then h (put_then h P1 P2) P3))
+head_put v k K f P1 P2 P3 = rw (← f) (wrote_as (append_assoc (120 ∷ decimal v) (32 ∷ []) (kind_text K)) (wrote_then (wrote_then P1 P2) P3))
 
 node_fields : (l : List ℕ) (v k first n : ℕ) (ts : List (List ℕ)) → k ≡ kind_at l v → first ≡ first_at l v
     → n ≡ count_at l v → spaced (kind_text (kind_of (gate_at l v).kind) ∷ (map signal_text (gate_at l v).ins ++ ts))
@@ -104,13 +104,12 @@ node_fields l v k first n ts e g m =
     rw (← e, ← g, ← m)
     (ap (λ (x : List ℕ). (32 ∷ kind_text (kind_of k)) ++ x) (spaced_append (map signal_text (tab (λ j. input_at l (first + j)) n)) ts))
 
-pub node_put : (l : List ℕ) (v k first n : ℕ) {b : List ℕ} {at : ℕ} {b1 b2 b3 b4 : List ℕ} {p1 p2 p3 r : ℕ}
-    → length b < 2 ^ 64 → k ≡ kind_at l v → first ≡ first_at l v → n ≡ count_at l v
-    → Put b at (head_text v k) b1 p1 → Put b1 p1 (inputs_text l first n) b2 p2
-    → Put b2 p2 (spaced (table_fields (gate_at l v))) b3 p3 → Put b3 p3 (10 ∷ []) b4 r → Put b at (node_line v (gate_at l v)) b4 r
+pub node_put : (l : List ℕ) (v k first n : ℕ) {t t1 t2 t3 t4 : Text} → k ≡ kind_at l v → first ≡ first_at l v → n ≡ count_at l v
+    → Wrote t (head_text v k) t1 → Wrote t1 (inputs_text l first n) t2 → Wrote t2 (spaced (table_fields (gate_at l v))) t3 → Wrote t3 (10 ∷ []) t4
+    → Wrote t (node_line v (gate_at l v)) t4
 unfolding node_line line head_text
-node_put l v k first n h e g m P1 P2 P3 P4 =
-    put_as same (put_then h (put_then h (put_then h P1 P2) P3) P4)
+node_put l v k first n e g m P1 P2 P3 P4 =
+    wrote_as same (wrote_then (wrote_then (wrote_then P1 P2) P3) P4)
   where
     fields : spaced (kind_text (kind_of (gate_at l v).kind) ∷ (map signal_text (gate_at l v).ins ++ table_fields (gate_at l v)))
         ≡ (32 ∷ kind_text (kind_of k)) ++ (inputs_text l first n ++ spaced (table_fields (gate_at l v)))
@@ -122,43 +121,42 @@ node_put l v k first n h e g m P1 P2 P3 P4 =
 
 -- ---- put_nodes, put_output and put_outputs
 
-module _ (l b : List ℕ) (at : ℕ) where
-  pub nodes_none : at < 2 ^ 64 → Put b at (numbered node_line 0 (nodes_of l 0)) b at
+module _ (l : List ℕ) (t : Text) where
+  pub nodes_none : Wrote t (numbered node_line 0 (nodes_of l 0)) t
   unfolding nodes_of tab numbered
-  nodes_none h = put_none b at h
+  nodes_none = wrote_none t
 
-  pub nodes_next : (v : ℕ) (b1 b2 : List ℕ) (p r : ℕ) → length b < 2 ^ 64 → Put b1 p (node_line v (gate_at l v)) b2 r
-      → Put b at (numbered node_line 0 (nodes_of l v)) b1 p → Put b at (numbered node_line 0 (nodes_of l (v + 1))) b2 r
+  pub nodes_next : (v : ℕ) (t1 t2 : Text) → Wrote t1 (node_line v (gate_at l v)) t2 → Wrote t (numbered node_line 0 (nodes_of l v)) t1
+      → Wrote t (numbered node_line 0 (nodes_of l (v + 1))) t2
   unfolding nodes_of
-  nodes_next v b1 b2 p r h Q P = rw (add-one v) (put_as (sym (numbered_tab node_line (gate_at l) v)) (put_then h P Q))
+  nodes_next v t1 t2 Q P = rw (add-one v) (wrote_as (sym (numbered_tab node_line (gate_at l) v)) (wrote_then P Q))
 
-  pub nodes_end : (v n : ℕ) (b1 : List ℕ) (p : ℕ) → n ≤ v → v ≤ n → Put b at (numbered node_line 0 (nodes_of l v)) b1 p
-      → Put b at (numbered node_line 0 (nodes_of l n)) b1 p
-  nodes_end v n b1 p h k P = let e : v ≡ n = omega arith in rw (← e) P
+  pub nodes_end : (v n : ℕ) (t1 : Text) → n ≤ v → v ≤ n → Wrote t (numbered node_line 0 (nodes_of l v)) t1 → Wrote t (numbered node_line 0 (nodes_of l n)) t1
+  nodes_end v n t1 h k P = let e : v ≡ n = omega arith in rw (← e) P
 
-  pub outputs_none : at < 2 ^ 64 → Put b at (numbered output_line 0 (outputs_of l 0)) b at
+  pub outputs_none : Wrote t (numbered output_line 0 (outputs_of l 0)) t
   unfolding outputs_of tab numbered
-  outputs_none h = put_none b at h
+  outputs_none = wrote_none t
 
-  pub outputs_next : (o s : ℕ) (b1 b2 : List ℕ) (p r : ℕ) → length b < 2 ^ 64 → s ≡ output_at l o → Put b1 p (output_line o s) b2 r
-      → Put b at (numbered output_line 0 (outputs_of l o)) b1 p → Put b at (numbered output_line 0 (outputs_of l (o + 1))) b2 r
+  pub outputs_next : (o s : ℕ) (t1 t2 : Text) → s ≡ output_at l o → Wrote t1 (output_line o s) t2 → Wrote t (numbered output_line 0 (outputs_of l o)) t1
+      → Wrote t (numbered output_line 0 (outputs_of l (o + 1))) t2
   unfolding outputs_of
-  outputs_next o s b1 b2 p r h e Q P = rw (add-one o) (put_as (sym (numbered_tab output_line (output_at l) o)) (rw (← e) (put_then h P Q)))
+  outputs_next o s t1 t2 e Q P = rw (add-one o) (wrote_as (sym (numbered_tab output_line (output_at l) o)) (rw (← e) (wrote_then P Q)))
 
-  pub outputs_end : (o m : ℕ) (b1 : List ℕ) (p : ℕ) → m ≤ o → o ≤ m → Put b at (numbered output_line 0 (outputs_of l o)) b1 p
-      → Put b at (numbered output_line 0 (outputs_of l m)) b1 p
-  outputs_end o m b1 p h k P = let e : o ≡ m = omega arith in rw (← e) P
+  pub outputs_end : (o m : ℕ) (t1 : Text) → m ≤ o → o ≤ m → Wrote t (numbered output_line 0 (outputs_of l o)) t1
+      → Wrote t (numbered output_line 0 (outputs_of l m)) t1
+  outputs_end o m t1 h k P = let e : o ≡ m = omega arith in rw (← e) P
 
 pub node_held : (l : List ℕ) (c : Counts) (v : ℕ) → Held l c → v < c.nodes → Node l v
 node_held l c v H h = record { long = H.long; few = omega (arith, nodes_few l c H); ends = H.ends v h }
 
 pub ruleset walks = (nodes_none, nodes_next, nodes_end, node_held)
 
-pub output_put : (o s : ℕ) {b : List ℕ} {at : ℕ} {b1 b2 b3 b4 : List ℕ} {p1 p2 p3 r : ℕ} → length b < 2 ^ 64 → Put b at (111 ∷ decimal o) b1 p1
-    → Put b1 p1 (32 ∷ []) b2 p2 → Put b2 p2 (signal_text s) b3 p3 → Put b3 p3 (10 ∷ []) b4 r → Put b at (output_line o s) b4 r
+pub output_put : (o s : ℕ) {t t1 t2 t3 t4 : Text} → Wrote t (111 ∷ decimal o) t1 → Wrote t1 (32 ∷ []) t2 → Wrote t2 (signal_text s) t3
+    → Wrote t3 (10 ∷ []) t4 → Wrote t (output_line o s) t4
 unfolding output_line line spaced
-output_put o s h P1 P2 P3 P4 =
-    put_as (simp append_assoc) (put_then h (put_then h (put_then h P1 P2) P3) P4)
+output_put o s P1 P2 P3 P4 =
+    wrote_as (simp append_assoc) (wrote_then (wrote_then (wrote_then P1 P2) P3) P4)
 
 pub ruleset outputs = (outputs_none, outputs_next, outputs_end)
 
@@ -167,12 +165,12 @@ pub ruleset outputs = (outputs_none, outputs_next, outputs_end)
 pub outputs_held : (l : List ℕ) (c : Counts) → Held l c → Outputs l c.outs
 outputs_held l c H = record { long = H.long; few = outs_few l c H }
 
-pub listing_put : (l : List ℕ) (c : Counts) {b b1 b2 b3 : List ℕ} {p1 p2 r : ℕ} → length b < 2 ^ 64 → Put b 0 (counts_line c.inputs c.nodes c.outs) b1 p1
-    → Put b1 p1 (numbered node_line 0 (nodes_of l c.nodes)) b2 p2 → Put b2 p2 (numbered output_line 0 (outputs_of l c.outs)) b3 r
-    → Put b 0 (listing_of (network_of l c)) b3 r
+pub listing_put : (l : List ℕ) (c : Counts) {t t1 t2 t3 : Text} → Wrote t (counts_line c.inputs c.nodes c.outs) t1
+    → Wrote t1 (numbered node_line 0 (nodes_of l c.nodes)) t2 → Wrote t2 (numbered output_line 0 (outputs_of l c.outs)) t3
+    → Wrote t (listing_of (network_of l c)) t3
 unfolding listing_of network_of net_of
-listing_put l c h P1 P2 P3 =
+listing_put l c P1 P2 P3 =
     let cs = counts_line c.inputs c.nodes c.outs in
     let ns = numbered node_line 0 (nodes_of l c.nodes) in
     let os = numbered output_line 0 (outputs_of l c.outs) in
-    rw (length_nodes_of l c.nodes, length_outputs_of l c.outs) (put_as (append_assoc cs ns os) (put_then h (put_then h P1 P2) P3))
+    rw (length_nodes_of l c.nodes, length_outputs_of l c.outs) (wrote_as (append_assoc cs ns os) (wrote_then (wrote_then P1 P2) P3))

@@ -7,118 +7,110 @@ ghost use Rattle.model.specs.Listing.{decimal, spaced, numbered, counts_line, ta
 ghost use Rattle.tables.specs.Layout.{gate_at, nodes_of, outputs_of};
 ghost use Rattle.tables.specs.Holding.{network_of, Held};
 ghost use Rattle.tables.specs.Working.{Answered};
-ghost use Rattle.text_parts.specs.Putting.{Put};
+ghost use Rattle.text_parts.specs.Putting.{Put, Wrote};
 ghost use Rattle.listing.specs.Fields.{Node, Inputs, Outputs, head_text, inputs_text};
 ghost use Rattle.refusals.specs.Numbers.{numbered as by_number};
 
 use answers::Answer;
-use kinds::kind_of;
+use kinds::{Kind, kind_of};
 use refusals::Refusal;
 use signal::Signal;
 use tables::counts::Counts;
 use tables::layout::{count_at, first_at, high_at, input_at, kind_at, low_at, output_at};
 use text::{put_all, put_kind, put_name, put_number, put_signal};
-use text_parts::{put, table};
+use text_parts::{Text, table};
 
 pub mod text;
 
 // A text, and a number behind it.
-fn put_field(out: &mut [u8], at: usize, text: &[u8], n: usize) -> usize
-    ensures { Put out.old at (text.now ++ decimal n) out.new result }
+fn put_field(to: &mut Text, text: &[u8], n: usize)
+    ensures { Wrote to.old (text.now ++ decimal n) to.new }
 {
-    let p = put_all(out, at, text);
-    put_number(out, p, n as u64)
+    put_all(to, text);
+    put_number(to, n as u64);
 }
 
 // Line one: the counts.
-fn put_counts(counts: Counts, out: &mut [u8], at: usize) -> usize
-    ensures { Put out.old at (counts_line counts.inputs counts.nodes counts.outs) out.new result }
+fn put_counts(to: &mut Text, counts: Counts)
+    ensures { Wrote to.old (counts_line counts.inputs counts.nodes counts.outs) to.new }
 {
-    let i = put_field(out, at, b"inputs ", counts.inputs);
-    let n = put_field(out, i, b" nodes ", counts.nodes);
-    let o = put_field(out, n, b" outputs ", counts.outs);
-    put(out, o, b'\n')
+    put_field(to, b"inputs ", counts.inputs);
+    put_field(to, b" nodes ", counts.nodes);
+    put_field(to, b" outputs ", counts.outs);
+    to.put(b'\n');
 }
 
 // The n inputs from `first` on, a space before each.
-fn put_inputs(from: &[u32], first: usize, n: usize, out: &mut [u8], at: usize) -> usize
+fn put_inputs(to: &mut Text, from: &[u32], first: usize, n: usize)
     requires { Inputs from.now first n }
-    ensures { Put out.old at (inputs_text from.now first n) out.new result }
+    ensures { Wrote to.old (inputs_text from.now first n) to.new }
 {
-    let mut p = at;
     for j in 0..n {
-        let space = put(out, p, b' ');
+        to.put(b' ');
         let a = input_at(from, first + j);
-        p = put_signal(out, space, Signal { a });
+        put_signal(to, Signal { a });
     }
-    p
 }
 
 // A Lut's table, with a space before it; nothing for other kinds.
-fn put_table(from: &[u32], v: usize, out: &mut [u8], at: usize) -> usize
+fn put_table(to: &mut Text, from: &[u32], v: usize)
     requires { Node from.now v }
-    ensures { Put out.old at (spaced (table_fields (gate_at from.now v))) out.new result }
+    ensures { Wrote to.old (spaced (table_fields (gate_at from.now v))) to.new }
 {
-    if kind_at(from, v) != 14 {
-        return at;
+    if kind_at(from, v) == 14 {
+        to.put(b' ');
+        put_number(to, table(low_at(from, v), high_at(from, v)));
     }
-    let space = put(out, at, b' ');
-    put_number(out, space, table(low_at(from, v), high_at(from, v)))
 }
 
 // Node v's name and kind.
-fn put_head(v: usize, kind: u32, out: &mut [u8], at: usize) -> usize
-    ensures { Put out.old at (head_text v kind) out.new result }
+fn put_head(to: &mut Text, v: usize, kind: u32)
+    ensures { Wrote to.old (head_text v kind) to.new }
 {
-    let name = put_name(out, at, b'x', v as u64);
-    let space = put(out, name, b' ');
-    put_kind(out, space, kind_of(kind))
+    put_name(to, b'x', v as u64);
+    to.put(b' ');
+    put_kind(to, kind_of(kind));
 }
 
 // Node v's line.
-fn put_node(from: &[u32], v: usize, out: &mut [u8], at: usize) -> usize
+fn put_node(to: &mut Text, from: &[u32], v: usize)
     requires { Node from.now v }
-    ensures { Put out.old at (node_line v (gate_at from.now v)) out.new result }
+    ensures { Wrote to.old (node_line v (gate_at from.now v)) to.new }
 {
-    let head = put_head(v, kind_at(from, v), out, at);
-    let inputs = put_inputs(from, first_at(from, v), count_at(from, v), out, head);
-    let end = put_table(from, v, out, inputs);
-    put(out, end, b'\n')
+    put_head(to, v, kind_at(from, v));
+    put_inputs(to, from, first_at(from, v), count_at(from, v));
+    put_table(to, from, v);
+    to.put(b'\n');
 }
 
 // A line for each node.
-fn put_nodes(from: &[u32], counts: Counts, out: &mut [u8], at: usize) -> usize
+fn put_nodes(to: &mut Text, from: &[u32], counts: Counts)
     requires { Held from.now counts }
-    ensures { Put out.old at (numbered node_line 0 (nodes_of from.now counts.nodes)) out.new result }
+    ensures { Wrote to.old (numbered node_line 0 (nodes_of from.now counts.nodes)) to.new }
 {
-    let nodes = counts.nodes;
-    let mut p = at;
-    for v in 0..nodes {
-        p = put_node(from, v, out, p);
+    for v in 0..counts.nodes {
+        put_node(to, from, v);
     }
-    p
 }
 
 // The line of output o, which is the signal s.
-fn put_output(o: usize, s: u32, out: &mut [u8], at: usize) -> usize
-    ensures { Put out.old at (output_line o s) out.new result }
+fn put_output(to: &mut Text, o: usize, s: u32)
+    ensures { Wrote to.old (output_line o s) to.new }
 {
-    let name = put_name(out, at, b'o', o as u64);
-    let space = put(out, name, b' ');
-    let end = put_signal(out, space, Signal { a: s });
-    put(out, end, b'\n')
+    put_name(to, b'o', o as u64);
+    to.put(b' ');
+    put_signal(to, Signal { a: s });
+    to.put(b'\n');
 }
 
 // A line for each output.
-fn put_outputs(from: &[u32], outs: usize, out: &mut [u8], at: usize) -> usize
+fn put_outputs(to: &mut Text, from: &[u32], outs: usize)
     requires { Outputs from.now outs }
-    ensures { Put out.old at (numbered output_line 0 (outputs_of from.now outs)) out.new result }
+    ensures { Wrote to.old (numbered output_line 0 (outputs_of from.now outs)) to.new }
 {
-    let mut p = at;
     for o in 0..outs {
-        p = put_output(o, output_at(from, o), out, p);
+        put_output(to, o, output_at(from, o));
     }
-    p
 }
 
 // The whole text from the front on; what has no room is left out. Its length.
@@ -126,9 +118,11 @@ fn put_listing(from: &[u32], counts: Counts, out: &mut [u8]) -> usize
     requires { Held from.now counts }
     ensures { Put out.old 0 (listing_of (network_of from.now counts)) out.new result }
 {
-    let first = put_counts(counts, out, 0);
-    let nodes = put_nodes(from, counts, out, first);
-    put_outputs(from, counts.outs, out, nodes)
+    let mut to = Text { out, at: 0 };
+    put_counts(&mut to, counts);
+    put_nodes(&mut to, from, counts);
+    put_outputs(&mut to, from, counts.outs);
+    to.at
 }
 
 // The text's length.

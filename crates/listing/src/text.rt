@@ -1,21 +1,18 @@
-// Numbers, signals and kinds as text, put into a lent buffer at a place: each function answers the place behind. What has no room is
-// left out, and places go on all the same.
+// Numbers, signals and kinds as text, put behind what stands in a lent buffer.
 ghost use Rattle.std.specs.Prelude.{◌≡◌, ◌∷◌, ◌+◌, ◌<◌};
 ghost use Rattle.model.specs.Listing.{decimal, signal_text, kind_text};
-ghost use Rattle.text_parts.specs.Putting.{Put};
+ghost use Rattle.text_parts.specs.Putting.{Wrote};
 
 use kinds::Kind;
 use signal::Signal;
-use text_parts::{put, put_mark};
+use text_parts::Text;
 
-pub fn put_all(out: &mut [u8], at: usize, text: &[u8]) -> usize
-    ensures { Put out.old at text.now out.new result }
+pub fn put_all(to: &mut Text, text: &[u8])
+    ensures { Wrote to.old text.now to.new }
 {
-    let mut p = at;
     for &b in text {
-        p = put(out, p, b);
+        to.put(b);
     }
-    p
 }
 
 fn digit(n: u64) -> u8
@@ -26,36 +23,39 @@ fn digit(n: u64) -> u8
 }
 
 // A number in decimal.
-pub fn put_number(out: &mut [u8], at: usize, n: u64) -> usize
-    ensures { Put out.old at (decimal n) out.new result }
+pub fn put_number(to: &mut Text, n: u64)
+    ensures { Wrote to.old (decimal n) to.new }
 {
     if n < 10 {
-        return put(out, at, digit(n));
+        to.put(digit(n));
+    } else {
+        put_number(to, n / 10);
+        to.put(digit(n % 10));
     }
-    let p = put_number(out, at, n / 10);
-    put(out, p, digit(n % 10))
 }
 
 // A letter and a number: x0, i3, o1.
-pub fn put_name(out: &mut [u8], at: usize, letter: u8, n: u64) -> usize
-    ensures { Put out.old at (letter ∷ decimal n) out.new result }
+pub fn put_name(to: &mut Text, letter: u8, n: u64)
+    ensures { Wrote to.old (letter ∷ decimal n) to.new }
 {
-    let p = put(out, at, letter);
-    put_number(out, p, n)
+    to.put(letter);
+    put_number(to, n);
 }
 
 // 0, 1, x3 or i2, and ! before where it is inverted.
-pub fn put_signal(out: &mut [u8], at: usize, s: Signal) -> usize
-    ensures { Put out.old at (signal_text s.a) out.new result }
+pub fn put_signal(to: &mut Text, s: Signal)
+    ensures { Wrote to.old (signal_text s.a) to.new }
 {
     if s.is_constant() {
-        return put_number(out, at, s.a as u64);
+        put_number(to, s.a as u64);
+        return;
     }
-    let p = put_mark(out, at, s.is_inverted());
+    to.put_mark(s.is_inverted());
     if s.is_input() {
-        return put_name(out, p, b'i', s.input() as u64);
+        put_name(to, b'i', s.input() as u64);
+    } else {
+        put_name(to, b'x', s.var() as u64);
     }
-    put_name(out, p, b'x', s.var() as u64)
 }
 
 fn name(kind: Kind) -> &'static [u8]
@@ -80,8 +80,8 @@ fn name(kind: Kind) -> &'static [u8]
     }
 }
 
-pub fn put_kind(out: &mut [u8], at: usize, kind: Kind) -> usize
-    ensures { Put out.old at (kind_text kind) out.new result }
+pub fn put_kind(to: &mut Text, kind: Kind)
+    ensures { Wrote to.old (kind_text kind) to.new }
 {
-    put_all(out, at, name(kind))
+    put_all(to, name(kind));
 }

@@ -7,6 +7,7 @@ ghost use Rattle.tables.specs.Building.{put_inputs, put_outputs};
 ghost use Rattle.tables.specs.Holding.{Holds};
 ghost use Rattle.load_body.specs.Loading.{word_from, Copies, Headed, Tabled, Fits, Placed, Records, Nodes, Outputs, Loadable};
 
+use kinds::Kind;
 use tables::counts::Counts;
 use tables::layout::{put_gate, put_input, put_output, put_table};
 
@@ -35,7 +36,7 @@ fn load_table(body: &[u8], at: usize, h: u32, to: &mut [u32], v: usize) -> usize
     requires { Headed body.now at h to.old v }
     ensures { Tabled body.now at to.old v to.new result }
 {
-    if h % 256 != 14 {
+    if h % 256 != Kind::Lut as u32 {
         put_table(to, v, 0, 0);
         return 0;
     }

@@ -9,20 +9,14 @@ use Rattle.laws.specs.Lists.{tab}
 use Rattle.laws.proofs.Bools.{taut3}
 use Rattle.laws.proofs.Tabs.{length_tab}
 use Rattle.model.specs.Evaluate.{weight}
-use Rattle.tables.specs.Layout.{input_at, low_at, high_at}
-use Rattle.signal_values.specs.Signals.{value_at, input_value}
+use Rattle.tables.specs.Layout.{low_at, high_at}
+use Rattle.signal_values.specs.Signals.{input_value}
 use Rattle.signal_values.proofs.Bits.{mask_odd}
 use Rattle.signal_values.proofs.Bounds.{weight_small}
-use Rattle.signal_values.proofs.Turns.{input_is, input_first}
 use Rattle.mux_and_lut.specs.Tables.{lut_value}
 
-module _ (f t : List ℕ) (first : ℕ) where
-  pub mux_is : (x y z : ℕ) (s a b : Bool) → x ≡ input_at f first → s ≡ value_at t x → y ≡ input_at f (first + 1) → a ≡ value_at t y
-      → z ≡ input_at f (first + 2) → b ≡ value_at t z
-      → (s && a || not s && b) ≡ cond (input_value f t first 0) (input_value f t first 1) (input_value f t first 2)
-  mux_is x y z s a b p p' q q' r r' =
-      taut3 (λ s a b. s && a || not s && b) (λ s a b. cond s a b) tt s a b
-      ∙ rw (← input_first f t first x s p p', ← input_is f t first 1 y a q q', ← input_is f t first 2 z b r r')
+pub mux_is : (s a b : Bool) → (s && a || not s && b) ≡ cond s a b
+mux_is s a b = taut3 (λ s a b. s && a || not s && b) (λ s a b. cond s a b) tt s a b
 
 -- ---- the Lut's bit
 
@@ -34,4 +28,4 @@ pub lut_is : (f t : List ℕ) (v first count w lo hi : ℕ) → w ≡ weight (ta
 unfolding lut_value
 lut_is f t v first count w lo hi e a b = mask_odd ((lo + 4294967296 * hi) / 2 ^ w) ∙ rw (e, a, b)
 
-pub ruleset chooses = (mux_is, weight_inside, lut_is)
+pub ruleset chooses = (weight_inside, lut_is)

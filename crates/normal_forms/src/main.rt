@@ -11,7 +11,7 @@ use listing::text::{put_all, put_signal};
 use reading::read_full;
 use std::io;
 use std::io::Write;
-use text_parts::{put, put_mark};
+use text_parts::Text;
 
 mod record;
 mod text;
@@ -24,9 +24,10 @@ fn print_gate<W: Write>(
     ins: &[u32],
     table: u64,
 ) -> io::Result<()> {
-    let end = text::put_gate(out, 0, kind, ins, table);
-    let next = put_all(out, end, b" -> ");
-    flush(to, out, next)
+    let mut side = Text { out, at: 0 };
+    text::put_gate(&mut side, kind, ins, table);
+    put_all(&mut side, b" -> ");
+    flush(to, &side)
 }
 
 // A line's right side, into out: the signal, or the gate with its inversion.
@@ -37,28 +38,22 @@ fn print_normal<W: Write>(
     list: &[u32],
     table: u64,
 ) -> io::Result<()> {
+    let mut side = Text { out, at: 0 };
     match r {
-        Normalization::Copy(s) => {
-            let end = put_signal(out, 0, s);
-            end_line(to, out, end)
-        }
+        Normalization::Copy(s) => put_signal(&mut side, s),
         Normalization::Node { kind, count, inv } => {
-            let at = put_mark(out, 0, inv);
+            side.put_mark(inv);
             let ins = &list[..count.min(list.len())];
-            let end = text::put_gate(out, at, kind, ins, table);
-            end_line(to, out, end)
+            text::put_gate(&mut side, kind, ins, table);
         }
     }
+    side.put(b'\n');
+    flush(to, &side)
 }
 
-fn end_line<W: Write>(to: &mut W, out: &mut [u8], at: usize) -> io::Result<()> {
-    let next = put(out, at, b'\n');
-    flush(to, out, next)
-}
-
-fn flush<W: Write>(to: &mut W, out: &[u8], n: usize) -> io::Result<()> {
-    if n <= out.len() {
-        to.write_all(&out[..n])?;
+fn flush<W: Write>(to: &mut W, text: &Text) -> io::Result<()> {
+    if text.at <= text.out.len() {
+        to.write_all(&text.out[..text.at])?;
     }
     Ok(())
 }

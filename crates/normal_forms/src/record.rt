@@ -25,6 +25,7 @@ fn word(img: &[u8], k: usize) -> u32 {
 }
 
 // The bytes of a record with the header h, where there are so many.
+// stays: a code above 14 is none, and `kind_of` would name it a Lut.
 #[tactic(auto, unfolding(records::specs::Layouts::size_of, model::specs::Image::extra))]
 fn size(img: &[u8], h: u32) -> Option<usize>
     ensures { IfSome result (λ n. (0 < n) × (n ≤ length img.now) × (h < 16777216)) }

@@ -1,26 +1,23 @@
-// Gates as text, put into a lent buffer at a place: each function answers the place behind.
+// Gates as text, put behind what stands in a lent buffer.
 use kinds::Kind;
 use listing::text::{put_kind, put_number, put_signal};
 use signal::Signal;
-use text_parts::put;
+use text_parts::Text;
 
 // The signals of a list, a space before each.
-fn put_signals(out: &mut [u8], at: usize, list: &[u32]) -> usize {
-    let mut p = at;
+fn put_signals(to: &mut Text, list: &[u32]) {
     for s in list {
-        let space = put(out, p, b' ');
-        p = put_signal(out, space, Signal { a: *s });
+        to.put(b' ');
+        put_signal(to, Signal { a: *s });
     }
-    p
 }
 
 // Its kind and its inputs; a Lut's table in decimal at the end.
-pub fn put_gate(out: &mut [u8], at: usize, kind: Kind, ins: &[u32], table: u64) -> usize {
-    let name = put_kind(out, at, kind);
-    let inputs = put_signals(out, name, ins);
-    if kind != Kind::Lut {
-        return inputs;
+pub fn put_gate(to: &mut Text, kind: Kind, ins: &[u32], table: u64) {
+    put_kind(to, kind);
+    put_signals(to, ins);
+    if kind == Kind::Lut {
+        to.put(b' ');
+        put_number(to, table);
     }
-    let space = put(out, inputs, b' ');
-    put_number(out, space, table)
 }

@@ -21,6 +21,7 @@ pub fn fits_kind(k: Kind, n: u32) -> bool
     }
 }
 
+// stays: `kind_of` is total, so the bound is asked here; a TryFrom would serve this place alone.
 #[tactic(auto, using(crate::proofs::Fits::code_fits))]
 fn fits_code(code: u32, n: u32) -> bool
     ensures { result ≡ fits_code code n }
@@ -62,7 +63,11 @@ pub fn size_of(h: u32) -> usize
     ensures { result ≡ size_of h }
 {
     let n = (h / 256) as usize;
-    if h % 256 == 14 { n + 3 } else { n + 1 }
+    if h % 256 == Kind::Lut as u32 {
+        n + 3
+    } else {
+        n + 1
+    }
 }
 
 // The words of the record at `at`, if it is sound and ends at `lim` or before.
@@ -78,7 +83,7 @@ fn fit_at(body: &[u8], at: usize, lim: usize) -> Option<usize>
         return None;
     }
     let n = (h / 256) as usize;
-    if h % 256 != 14 {
+    if h % 256 != Kind::Lut as u32 {
         if lim - at <= n {
             return None;
         }

@@ -1,7 +1,6 @@
 -- What the search for a repeat asks of the area that it reads, and the number that it comes to.
-use Rattle.std.specs.Prelude.{suc, ℕ, ◌+◌, ◌<◌, ◌≤◌, Bool, cond, List, drop, get_or, length}
+use Rattle.std.specs.Prelude.{ℕ, ◌+◌, ◌<◌, ◌≤◌, cond, List, length}
 use Rattle.model.specs.Gate.{Gate}
-use Rattle.model.specs.Network.{has}
 use Rattle.model.specs.Sharing.{any_repeats}
 use Rattle.tables.specs.Layout.{count_at, first_at, net_size}
 
@@ -16,10 +15,6 @@ pub record Nodes (l : List ℕ) (n : ℕ) : Type 0 where
   pub long : net_size ≤ length l
   pub few : n ≤ 512
   pub ends : (v : ℕ) → v < n → first_at l v + count_at l v ≤ 2048
-
--- signal i of l stands behind it again
-unfoldable pub is_repeated : List ℕ → ℕ → Bool
-is_repeated l i = has (get_or l i 0) (drop (suc i) l)
 
 -- 9, or 0
 unfoldable pub repeats_refusal : List Gate → ℕ

@@ -1,45 +1,36 @@
 // Refusal 9: "an And2, And3 or n-ary And of two or more inputs lists a signal twice".
 #![tactic(auto)]
 
-ghost use Rattle.std.specs.Prelude.{◌≡◌, ◌<◌};
+ghost use Rattle.std.specs.Prelude.{◌≡◌};
 ghost use Rattle.model.specs.Sharing.{repeats, any_repeats};
-ghost use Rattle.tables.specs.Layout.{count_at, ins_at, nodes_of};
+ghost use Rattle.tables.specs.Layout.{ins_at, nodes_of};
 ghost use Rattle.refusals.specs.Numbers.{numbered, unless};
-ghost use Rattle.repeats.specs.Reading.{Node, Nodes, is_repeated, repeats_refusal};
+ghost use Rattle.repeats.specs.Reading.{Node, Nodes, repeats_refusal};
 
 use kinds::Family;
 use refusals::Refusal;
 use tables::layout::{count_at, first_at, input_at};
 use uses::count::takes;
 
-// Whether node v lists its signal i again behind it.
-fn is_repeated(from: &[u32], v: usize, i: usize) -> bool
-    requires { Node from.now v × (i < count_at from.now v) }
-    ensures { result ≡ is_repeated (ins_at from.now v) i }
-{
-    let f = first_at(from, v);
-    let n = count_at(from, v);
-    let x = input_at(from, f + i);
-    for j in i + 1..n {
-        if input_at(from, f + j) == x {
-            return true;
-        }
-    }
-    false
-}
-
-// Whether node v lists a signal twice.
+// Whether node v lists a signal twice: leaves both loops at the first.
 fn repeats(from: &[u32], v: usize) -> bool
     requires { Node from.now v }
     ensures { result ≡ repeats (ins_at from.now v) }
 {
+    let f = first_at(from, v);
     let n = count_at(from, v);
-    for i in 0..n {
-        if is_repeated(from, v, i) {
-            return true;
+    let mut found = false;
+    // stays: a flag and a labelled break, since document 01 names the form of this place
+    'outer: for i in 0..n {
+        let x = input_at(from, f + i);
+        for j in i + 1..n {
+            if input_at(from, f + j) == x {
+                found = true;
+                break 'outer;
+            }
         }
     }
-    false
+    found
 }
 
 // Whether one of the first n nodes meets 9.

@@ -4,7 +4,7 @@
 ghost use Rattle.std.specs.Prelude.{◌≤◌};
 
 use crate::entries::{ENTRIES, Entry};
-use crate::replaying::lend;
+use crate::lent::Lent;
 use answers::Answer;
 use recorded::buffers::slice;
 use recorded::hand::{behind_colon, put, put_image};
@@ -41,9 +41,14 @@ fn show<W: Write>(to: &mut W, entry: Entry, record: &[u8]) -> io::Result<()> {
     let mut a = [0u32; 16384];
     let mut b = [0u32; 16384];
     for _ in 0..cycles(entry) {
-        let r = lend(
-            entry, record, &mut out, &mut map, &mut state, &mut a, &mut b,
-        );
+        let lent = Lent {
+            out: &mut out,
+            map: &mut map,
+            state: &mut state,
+            a: &mut a,
+            b: &mut b,
+        };
+        let r = lent.front(entry, record).run(entry, record);
         print_answer(to, entry, r, &out)?;
     }
     print(to, b"\n")

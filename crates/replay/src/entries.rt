@@ -1,18 +1,9 @@
-// The entries: each has its code, its names and its arm here, and its line in the file `stdout`, in the order of the codes.
+// The entries: each has its code and its names here, its arm in `Lent::run`, and its line in the file `stdout`, in the order of the codes.
 use answers::Answer;
-use evaluation::evaluate;
-use lanternlean::read::read;
 use lanternlean::record::{record, record_at};
-use network::canonical::canonical;
-use network::cleaning::cleanup;
-use network::deduplicate::dedup;
-use network::sort::sort;
 use recorded::buffers::slice;
 use recorded::{Field, Part, data, word};
 use refusals::Refusal;
-use sharing::factor::factor;
-use sharing::flattening::flatten;
-use sharing::share::share;
 
 // By the codes of docs/RECORDED.md.
 #[derive(Clone, Copy, PartialEq, Eq)]
@@ -76,34 +67,8 @@ impl Entry {
     }
 }
 
-// Runs an entry on what is lent; `out` takes an image, or the outputs of a cycle.
-pub fn run(
-    entry: Entry,
-    recorded: &[u8],
-    out: &mut [u8],
-    map: &mut [u32],
-    state: &mut [u8],
-    a: &mut [u32],
-    b: &mut [u32],
-) -> Answer {
-    let image = data(recorded, Part::Image);
-    let k = word(recorded, Field::K as usize);
-    match entry {
-        Entry::Read => read(image, out, a, b),
-        Entry::Canonical => canonical(image, out, map, a, b),
-        Entry::Dedup => dedup(image, out, map, a, b),
-        Entry::Cleanup => cleanup(image, out, map, a, b),
-        Entry::Sort => sort(image, out, map, a, b),
-        Entry::Flatten => flatten(image, k, out, a, b),
-        Entry::Factor => factor(image, out, a, b),
-        Entry::Share => share(image, k, out, a, b),
-        Entry::Evaluate => evaluate(image, data(recorded, Part::Inputs), state, out, a, b),
-        Entry::Record => run_record(image, k),
-    }
-}
-
 // The entry without a number: it counts as accepted where the part has the image's bytes from its start on, else as refused.
-fn run_record(image: &[u8], k: u32) -> Answer {
+pub fn run_record(image: &[u8], k: u32) -> Answer {
     let part = record(image, k);
     if part == slice(image, record_at(image, k), part.len()) {
         return Ok(part.len());

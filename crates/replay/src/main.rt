@@ -10,6 +10,7 @@ use std::io;
 mod cases;
 mod entries;
 mod files;
+mod lent;
 mod replaying;
 
 // A megabyte, more than the longest file has.

@@ -1,7 +1,8 @@
 // One record: the entry run on buffers as long as those that were lent, and all that it left compared.
 ghost use Rattle.std.specs.Prelude.{◌≤◌, IfOk};
 
-use crate::entries::{Entry, part_start, run};
+use crate::entries::{Entry, part_start};
+use crate::lent::Lent;
 use answers::{Answer, length, number};
 use recorded::buffers::{BYTE, WORD, put};
 use recorded::comparing::{What, expect, has, has_area, has_mapping};
@@ -10,54 +11,13 @@ use recorded::{Field, Part, data, size, state_part, word};
 use std::io;
 use std::io::Write;
 
-// How much was lent of a buffer of len elements: a word of the head, which is no more than that in a record within bounds.
-fn lent(record: &[u8], w: Field, len: usize) -> usize
-    ensures { result ≤ len }
-{
-    size(record, w).min(len)
-}
-
-// The word that says how much was lent of the first buffer, and the part that it has then.
-fn out_word(entry: Entry) -> Field {
-    if entry == Entry::Evaluate {
-        Field::Outputs
-    } else {
-        Field::Out
-    }
-}
-
+// The part that the first buffer has then.
 fn out_part(entry: Entry) -> Part {
     if entry == Entry::Evaluate {
         Part::Output
     } else {
         Part::Result
     }
-}
-
-// Runs the entry on the front of each buffer, as much of it as was lent.
-pub fn lend(
-    entry: Entry,
-    record: &[u8],
-    out: &mut [u8],
-    map: &mut [u32],
-    state: &mut [u8],
-    a: &mut [u32],
-    b: &mut [u32],
-) -> Answer {
-    let out_len = lent(record, out_word(entry), out.len());
-    let map_len = lent(record, Field::Map, map.len());
-    let state_len = lent(record, Field::State, state.len());
-    let a_len = lent(record, Field::First, a.len());
-    let b_len = lent(record, Field::Second, b.len());
-    run(
-        entry,
-        record,
-        &mut out[..out_len],
-        &mut map[..map_len],
-        &mut state[..state_len],
-        &mut a[..a_len],
-        &mut b[..b_len],
-    )
 }
 
 fn is_answer<W: Write>(err: &mut W, entry: Entry, record: &[u8], r: Answer) -> io::Result<bool> {
@@ -83,9 +43,14 @@ fn is_same<W: Write>(err: &mut W, entry: Entry, record: &[u8]) -> io::Result<boo
     let mut a = [WORD; 16448];
     let mut b = [WORD; 16448];
     put(data(record, Part::StateBefore), &mut state);
-    let r = lend(
-        entry, record, &mut out, &mut map, &mut state, &mut a, &mut b,
-    );
+    let lent = Lent {
+        out: &mut out,
+        map: &mut map,
+        state: &mut state,
+        a: &mut a,
+        b: &mut b,
+    };
+    let r = lent.front(entry, record).run(entry, record);
     Ok(
         is_answer(err, entry, record, r)?
             & has(err, What::Result, record, out_part(entry), &out)?

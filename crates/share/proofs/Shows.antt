@@ -17,9 +17,10 @@ use Rattle.model.specs.Image.{refusal_of, net_of}
 use Rattle.model.specs.Listing.{ascii, decimal, line, spaced, listing_of}
 use Rattle.tables.specs.Layout.{net_size}
 use Rattle.tables.specs.Working.{Answered}
-use Rattle.text_parts.specs.Putting.{Put}
+use Rattle.text_parts.specs.Putting.{Put, Wrote}
+use Rattle.text_parts.specs.declared.Text.{Text}
 use Rattle.listing.proofs.Decimals.{decimal_short}
-use Rattle.text_parts.proofs.Puts.{put_then, put_as, put_text_laid}
+use Rattle.text_parts.proofs.Puts.{wrote_then, wrote_as, put_text_laid}
 use Rattle.share.specs.Texts.{refused_text, list_outcome, text_for, printed_for, printed_of, Shown, Lent}
 
 -- ---- refuse
@@ -33,11 +34,11 @@ refused_short n h =
     let d : length (decimal n) ≤ 10 = decimal_short 9 n (omega arith) in
     rw (refused_text_lem n, length-append (decimal n) (10 ∷ [])) (omega arith)
 
-pub refused_shown : (n : ℕ) {b b1 b2 b3 : List ℕ} {p q r : ℕ} → n < 4294967296 → 32768 ≤ length b → length b < 2 ^ 64 → Put b 0 (ascii "refused ") b1 p
-    → Put b1 p (decimal n) b2 q → Put b2 q (10 ∷ []) b3 r → Shown (refused_text n) b b3 r
-refused_shown n {b} {b1} {b2} {b3} {p} {q} {r} h l m P1 P2 P3 =
-    let P : Put b 0 (refused_text n) b3 r =
-    put_as (append_assoc (ascii "refused ") (decimal n) (10 ∷ []) ∙ sym (refused_text_lem n)) (put_then m (put_then m P1 P2) P3) in
+pub refused_wrote : (n : ℕ) {t t1 t2 t3 : Text} → Wrote t (ascii "refused ") t1 → Wrote t1 (decimal n) t2 → Wrote t2 (10 ∷ []) t3 → Wrote t (refused_text n) t3
+refused_wrote n P1 P2 P3 = wrote_as (append_assoc (ascii "refused ") (decimal n) (10 ∷ []) ∙ sym (refused_text_lem n)) (wrote_then (wrote_then P1 P2) P3)
+
+pub refused_shown : (n : ℕ) {b b' : List ℕ} {r : ℕ} → n < 4294967296 → 32768 ≤ length b → Put b 0 (refused_text n) b' r → Shown (refused_text n) b b' r
+refused_shown n {b} {b'} {r} h l P =
     let s = refused_short n h in
     record {
       bytes = P.bytes ∙ put_text_laid b (refused_text n) (omega arith);

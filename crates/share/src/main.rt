@@ -17,7 +17,7 @@ use refusals::Refusal;
 use sharing::share::share;
 use std::io;
 use std::io::Write;
-use text_parts::put;
+use text_parts::Text;
 use words::word_at;
 
 // `refused` and the number, at the front of the text. Its length, as each of these answers.
@@ -25,9 +25,11 @@ fn refuse(why: Refusal, text: &mut [u8]) -> usize
     requires { 32768 ≤ length text.old }
     ensures { Shown (refused_text (number why)) text.old text.new result }
 {
-    let number = put_all(text, 0, b"refused ");
-    let end = put_number(text, number, u32::from(why) as u64);
-    put(text, end, b'\n')
+    let mut to = Text { out: text, at: 0 };
+    put_all(&mut to, b"refused ");
+    put_number(&mut to, u32::from(why) as u64);
+    to.put(b'\n');
+    to.at
 }
 
 // The listing of an image's network.

@@ -2,7 +2,7 @@
 use mathlib.Core.Path.{◌≡◌, refl, sym, ap}
 use mathlib.Core.Bool.{cond}
 use mathlib.Core.List.{List, []}
-use Prim.Native.Nat.{ℕ, ◌≤◌}
+use Prim.Native.Nat.{ℕ}
 use native.Mathlib.Omega.{arith}
 use lib.ListN.{length}
 use lib.Dec.{eqb}
@@ -25,7 +25,6 @@ use Rattle.load.specs.Images.{Read}
 use Rattle.load.proofs.Loading.{refused_is, network_passes, network_holds, network_is}
 use Rattle.repeats.specs.Reading.{Nodes, repeats_refusal}
 use Rattle.repeats.proofs.Searched.{held_nodes}
-use Rattle.growth.specs.Growing.{counts_of}
 use Rattle.stages.specs.Stages.{Workable, Left, Staged, first_met, flat_refusal, share_refusal}
 use Rattle.stages.proofs.Staging.{staged_passes, staged_number, next_leaves}
 use Rattle.sharing.specs.Works.{imaged, flatten_pass, factor_pass, share_pass, imaged_work}

@@ -10,10 +10,9 @@ use mathlib.Core.List.{List}
 use lib.Dec.{eqb}
 use borrow.Author.Tests.{eq-eqb, ne_eqb}
 use Rattle.laws.specs.Bools.{bit}
-use Rattle.tables.specs.Layout.{input_at}
-use Rattle.signal_values.specs.Signals.{value_at, input_value, ones_to}
+use Rattle.signal_values.specs.Signals.{input_value, ones_to}
 use Rattle.signal_values.proofs.Bounds.{ones_most}
-use Rattle.signal_values.proofs.Turns.{bit_low, input_is}
+use Rattle.signal_values.proofs.Turns.{bit_low}
 
 -- ---- one input decides
 
@@ -72,13 +71,13 @@ module _ (f t : List ℕ) (first : ℕ) where
   alike_none false count = record { few = omega arith; sum = refl }
 
   module _ (b : Bool) (j count : ℕ) (p : Alike f t first b j count) where
-    pub alike_more : (x : ℕ) (a : Bool) → j < count → x ≡ input_at f (first + j) → a ≡ value_at t x → not (beq a b) ≡ false → Alike f t first b (j + 1) count
+    pub alike_more : (a : Bool) → j < count → a ≡ input_value f t first j → not (beq a b) ≡ false → Alike f t first b (j + 1) count
     unfolding ones_to
-    alike_more x a l q r e = record { few = omega arith; sum = rw (add-one, ← input_is f t first j x a q r) (one_more b a j (ones_to (input_value f t first) j) p.sum e) }
+    alike_more a l q e = record { few = omega arith; sum = rw (add-one, ← q) (one_more b a j (ones_to (input_value f t first) j) p.sum e) }
 
-    pub alike_not : (x : ℕ) (a : Bool) → j < count → x ≡ input_at f (first + j) → a ≡ value_at t x → not (beq a b) ≡ true
+    pub alike_not : (a : Bool) → j < count → a ≡ input_value f t first j → not (beq a b) ≡ true
         → false ≡ eqb (ones_to (input_value f t first) count) (cond b count 0)
-    alike_not x a l q r e = decided (input_value f t first) b j count l (rw (← input_is f t first j x a q r) e)
+    alike_not a l q e = decided (input_value f t first) b j count l (rw (← q) e)
 
     pub alike_all : count ≤ j → true ≡ eqb (ones_to (input_value f t first) count) (cond b count 0)
     alike_all l =

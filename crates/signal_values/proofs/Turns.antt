@@ -38,9 +38,6 @@ module _ (f t : List ℕ) (first : ℕ) where
   unfolding input_value
   input_is j x b p q = q ∙ ap (value_at t) p
 
-  pub input_first : (x : ℕ) (b : Bool) → x ≡ input_at f first → b ≡ value_at t x → b ≡ input_value f t first 0
-  input_first x b p q = let z : first + 0 ≡ first = omega arith in input_is 0 x b (rw z p) q
-
   -- ---- ones
 
   pub record Ones (n j count : ℕ) : Type 0 where
@@ -58,11 +55,10 @@ module _ (f t : List ℕ) (first : ℕ) where
       let e = p ∙ byte_bit b in
       record { fits = rw h.sum (omega arith) }
 
-  pub ones_more : (n j count x o : ℕ) (b : Bool) → Ones n j count → j < count → x ≡ input_at f (first + j) → b ≡ value_at t x → o ≡ bool_byte b
-      → Ones (n + o) (j + 1) count
+  pub ones_more : (n j count o : ℕ) (b : Bool) → Ones n j count → j < count → b ≡ input_value f t first j → o ≡ bool_byte b → Ones (n + o) (j + 1) count
   unfolding ones_to
-  ones_more n j count x o b h l p q r =
-      record { few = omega arith; sum = rw (add-one, r, byte_bit b, input_is j x b p q) (ap (λ k. k + bit (input_value f t first j)) h.sum) }
+  ones_more n j count o b h l p q =
+      record { few = omega arith; sum = rw (add-one, q, byte_bit b, p) (ap (λ k. k + bit (input_value f t first j)) h.sum) }
 
   pub ones_all : (n j count : ℕ) → Ones n j count → count ≤ j → n ≡ ones_to (input_value f t first) count
   ones_all n j count h l = let e : j ≡ count = le_antisymm h.few l in h.sum ∙ rw e
@@ -95,15 +91,14 @@ module _ (f t : List ℕ) (first : ℕ) where
       let e = p ∙ byte_bit b in
       record { fits = omega arith }
 
-  pub weight_more : (w j count x o : ℕ) (b : Bool) → Weight w j count → 0 < j → x ≡ input_at f (first + (j - 1)) → b ≡ value_at t x → o ≡ bool_byte b
-      → Weight (2 * w + o) (j - 1) count
-  weight_more w j count x o b h l p q r =
+  pub weight_more : (w j count o : ℕ) (b : Bool) → Weight w j count → 0 < j → b ≡ input_value f t first (j - 1) → o ≡ bool_byte b → Weight (2 * w + o) (j - 1) count
+  weight_more w j count o b h l p q =
       let g = input_value f t first in
       let k : suc (j - 1) ≡ j = omega arith in
       let d : weight (drop (suc (j - 1)) (tab g count)) ≡ w = ap (λ m. weight (drop m (tab g count))) k ∙ sym h.sum in
       let c : weight (drop (j - 1) (tab g count)) ≡ bit (g (j - 1)) + 2 * weight (drop (suc (j - 1)) (tab g count)) =
       ap weight (drop_tab g count (j - 1) false (let m = h.few in omega arith)) in
-      let u : o ≡ bit (g (j - 1)) = r ∙ byte_bit b ∙ ap bit (input_is (j - 1) x b p q) in
+      let u : o ≡ bit (g (j - 1)) = q ∙ byte_bit b ∙ ap bit p in
       record { few = let m = h.few in omega arith; short = h.short; sum = omega arith }
 
   pub weight_all : (w j count : ℕ) → Weight w j count → j ≤ 0 → w ≡ weight (tab (input_value f t first) count)

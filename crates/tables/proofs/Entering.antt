@@ -12,8 +12,8 @@ use borrow.Author.Tests.{ltb-false}
 use Rattle.model.specs.Answers.{Answer}
 use Rattle.std.specs.Prelude.{Err}
 use Rattle.laws.proofs.Bools.{or_left, or_right}
-use Rattle.model.specs.Answers.{Outcome, areas_short, cleared, area_after, in_areas, Kept, Kept2}
-use Rattle.tables.specs.Working.{Areas, Cleared, Answered, Answered2}
+use Rattle.model.specs.Answers.{Outcome, areas_short, cleared, area_after, in_areas, Kept}
+use Rattle.tables.specs.Working.{Areas, Cleared, Answered}
 
 -- ---- what `areas_short` found
 
@@ -22,10 +22,6 @@ module _ (a b : List ℕ) (t : Bool) (e : t ≡ areas_short a b) where
     pub short_kept : Kept (in_areas a b o) out a b (Err 1) out a b
     unfolding in_areas area_after
     short_kept = let z : areas_short a b ≡ true = sym e ∙ s in record { answer = rw z; result = rw z; area_a = rw z; area_b = rw z }
-
-    pub short_kept2 : (second : List ℕ) → Kept2 (in_areas a b o) out second a b (Err 1) out second a b
-    unfolding in_areas
-    short_kept2 second = let z : areas_short a b ≡ true = sym e ∙ s in record { first = short_kept; second_is = rw z }
 
   module _ (s : t ≡ false) where
     long : areas_short a b ≡ false
@@ -44,23 +40,12 @@ module _ (a b : List ℕ) (t : Bool) (e : t ≡ areas_short a b) where
     unfolding in_areas area_after
     done a' b' C o out r out' D = record { answer = rw long D.answer; result = rw long D.result; area_a = rw long C.area_a; area_b = rw long C.area_b }
 
-    done2 : (a' b' : List ℕ) → Cleared a b a' b' → (o : Outcome) (out second : List ℕ) (r : Answer) (out' second' : List ℕ) → Answered2 o out second r out' second'
-        → Kept2 (in_areas a b o) out second a b r out' second' a' b'
-    unfolding in_areas
-    done2 a' b' C o out second r out' second' D = record { first = done a' b' C o out r out' D.first; second_is = rw long D.second_is }
-
 -- ---- the part of an area that is lent, and comes back as x
 
 pub part_long : (l : List ℕ) → 16384 ≤ length l → 16384 ≤ length (take 16384 l)
 part_long l h = rw (length-take-le 16384 l h) (omega arith)
 
-pub areas_lent : (a b : List ℕ) (t : Bool) → t ≡ areas_short a b → t ≡ false → Areas (take 16384 a) (take 16384 b)
-areas_lent a b t e s = record { long_a = part_long a (long_a a b t e s); long_b = part_long b (long_b a b t e s) }
-
 module _ (x l : List ℕ) (k : length x ≡ length (take 16384 l)) where
-  pub same_back : (l' : List ℕ) → length l' ≡ length (x ++ drop 16384 l) → length l' ≡ length l
-  same_back l' e = e ∙ length_front l x 16384 k
-
   long_back : 16384 ≤ length l → 16384 ≤ length (x ++ drop 16384 l)
   long_back h = rw (length_front l x 16384 k) h
 
@@ -71,15 +56,6 @@ module _ (x l : List ℕ) (k : length x ≡ length (take 16384 l)) where
 -- ---- the areas when the work is done: what `clear_areas` asks, and the entry's promise
 
 module _ (a b : List ℕ) (t : Bool) (e : t ≡ areas_short a b) (s : t ≡ false) (x : List ℕ) (k : length x ≡ length (take 16384 a)) where
-  -- a lent alone
-  pub areas_one : Areas (x ++ drop 16384 a) b
-  areas_one = record { long_a = long_back x a k (long_a a b t e s); long_b = long_b a b t e s }
-
-  pub kept_one_lem : (a' b' : List ℕ) → Cleared (x ++ drop 16384 a) b a' b' → (o : Outcome) (out : List ℕ) (r : Answer) (out' : List ℕ) → Answered o out r out'
-      → Kept (in_areas a b o) out a b r out' a' b'
-  kept_one_lem a' b' C = done a b t e s a' b' (record { area_a = C.area_a ∙ cleared_back x a k (long_a a b t e s); area_b = C.area_b })
-
-  -- both lent
   module _ (y : List ℕ) (m : length y ≡ length (take 16384 b)) where
     pub areas_both : Areas (x ++ drop 16384 a) (y ++ drop 16384 b)
     areas_both = record { long_a = long_back x a k (long_a a b t e s); long_b = long_back y b m (long_b a b t e s) }
@@ -90,9 +66,3 @@ module _ (a b : List ℕ) (t : Bool) (e : t ≡ areas_short a b) (s : t ≡ fals
 
       pub kept_both : (o : Outcome) (out : List ℕ) (r : Answer) (out' : List ℕ) → Answered o out r out' → Kept (in_areas a b o) out a b r out' a' b'
       kept_both = done a b t e s a' b' both
-
-      pub kept_both2 : (o : Outcome) (out second : List ℕ) (r : Answer) (out' second' : List ℕ) → Answered2 o out second r out' second'
-          → Kept2 (in_areas a b o) out second a b r out' second' a' b'
-      kept_both2 = done2 a b t e s a' b' both
-
-pub ruleset enters = (short_kept, short_kept2, long_a, long_b, part_long)

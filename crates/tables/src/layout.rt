@@ -14,6 +14,8 @@ const TAB: usize = 3584;
 const OUT: usize = 4608;
 
 // The places of the gate table's words.
+// stays: these, and the words read and put below, differ in the place alone; a const parameter would hand the places to every caller, and they
+// are known here alone.
 fn kind_ix(v: usize) -> usize
     requires { v < 512 }
     ensures { result ≡ kind_ix v }

@@ -1,5 +1,5 @@
 -- Texts put one after the other.
-use mathlib.Core.Path.{◌≡◌, refl, sym, ap, ◌∙◌}
+use mathlib.Core.Path.{◌≡◌, refl, sym, ap, ◌∙◌, subst}
 use Prim.Native.Nat.{ℕ, suc, ◌+◌, ◌≤◌, ◌<◌, ◌^◌}
 use native.Mathlib.Nat.{le_of_suc-le-suc, not-suc-le-zero}
 use native.Mathlib.Omega.{arith}
@@ -11,7 +11,8 @@ use lib.ListN.{length, set, drop, get_or, take, length-append, length-set}
 use lib.Seq.{set_out, set-append_seam, append_snoc, take-suc, take_all}
 use Rattle.model.specs.Answers.{laid_over}
 use Rattle.model.specs.Listing.{mark_text}
-use Rattle.text_parts.specs.Putting.{place, put_text, Put}
+use Rattle.text_parts.specs.declared.Text.{Text}
+use Rattle.text_parts.specs.Putting.{place, put_text, Put, Wrote}
 
 pub put_text_append : (b : List ℕ) (at : ℕ) (xs ys : List ℕ) → put_text b at (xs ++ ys) ≡ put_text (put_text b at xs) (at + length xs) ys
 unfolding put_text
@@ -54,11 +55,11 @@ put_text_laid b xs h = put_text_front [] b xs h
 
 -- ---- what was put
 
-pub put_none : (b : List ℕ) (at : ℕ) → at < 2 ^ 64 → Put b at [] b at
+put_none : (b : List ℕ) (at : ℕ) → at < 2 ^ 64 → Put b at [] b at
 unfolding put_text
 put_none b at h = record { bytes = refl; behind = omega arith }
 
-pub put_then : {b : List ℕ} {at : ℕ} {xs b' : List ℕ} {r : ℕ} {ys b'' : List ℕ} {s : ℕ} → length b < 2 ^ 64 → Put b at xs b' r → Put b' r ys b'' s
+put_then : {b : List ℕ} {at : ℕ} {xs b' : List ℕ} {r : ℕ} {ys b'' : List ℕ} {s : ℕ} → length b < 2 ^ 64 → Put b at xs b' r → Put b' r ys b'' s
     → Put b at (xs ++ ys) b'' s
 put_then {b} {at} {xs} {b'} {r} {ys} {b''} {s} h P Q = record {
   bytes =
@@ -67,39 +68,53 @@ put_then {b} {at} {xs} {b'} {r} {ys} {b''} {s} h P Q = record {
   behind = rw length-append (omega (arith, Q.behind, P.behind));
 }
 
+-- ---- what was written
+
+pub wrote_none : (t : Text) → Wrote t [] t
+wrote_none t = record { put = put_none t.out.now t.at t.fits.0; same = refl }
+
+pub wrote_then : {t t' t'' : Text} {xs ys : List ℕ} → Wrote t xs t' → Wrote t' ys t'' → Wrote t (xs ++ ys) t''
+wrote_then {t} P Q = record { put = put_then t.fits.1 P.put Q.put; same = Q.same ∙ P.same }
+
 -- the same text, said otherwise
-pub put_as : {b : List ℕ} {at : ℕ} {xs b' : List ℕ} {r : ℕ} {ys : List ℕ} → xs ≡ ys → Put b at xs b' r → Put b at ys b' r
-put_as e P = rw (← e) P
+pub wrote_as : {t t' : Text} {xs ys : List ℕ} → xs ≡ ys → Wrote t xs t' → Wrote t ys t'
+wrote_as e P = rw (← e) P
 
--- ---- put and put_all
+-- what the buffer holds when it comes back
+pub put_back : {t t' : Text} {xs b' : List ℕ} → Wrote t xs t' → (t.out.ghost_name ≡ t'.out.ghost_name → b' ≡ t'.out.now)
+    → Put t.out.now t.at xs b' t'.at
+put_back {t} {t'} {xs} P back = subst (λ (b : List ℕ). Put t.out.now t.at xs b t'.at) (sym (back (sym P.same))) P.put
 
-module _ (b : List ℕ) (at x : ℕ) where
-  pub byte_past : (r : ℕ) → length b ≤ at → r ≡ place (at + 1) → Put b at (x ∷ []) b r
+-- ---- put
+
+module _ (t : Text) (x : ℕ) (t' : Text) (behind : t'.at ≡ place (t.at + 1)) (same : t'.out.ghost_name ≡ t.out.ghost_name) where
+  pub byte_put : t'.out.now ≡ set t.out.now t.at x → Wrote t (x ∷ []) t'
   unfolding put_text
-  byte_past r h e = record { bytes = sym (set_out b at x h); behind = e }
+  byte_put e = record { put = record { bytes = e; behind = behind }; same = same }
 
-  pub byte_put : at < length b → length b < 2 ^ 64 → Put b at (x ∷ []) (set b at x) (at + 1)
-  unfolding put_text
-  byte_put h l = record { bytes = refl; behind = omega arith }
-
-module _ (b : List ℕ) (at : ℕ) (text : List ℕ) where
-  pub all_none : at < 2 ^ 64 → Put b at (take 0 text) b at
-  all_none h = put_none b at h
-
-  pub all_next : (i : ℕ) (b' : List ℕ) (p : ℕ) → Put b at (take i text) b' p → i < length text → length b < 2 ^ 64 → (b'' : List ℕ) (r : ℕ)
-      → Put b' p (get_or text i 0 ∷ []) b'' r → Put b at (take (i + 1) text) b'' r
-  all_next i b' p P h l b'' r Q = rw (add-one i, take-suc text i 0 h) (put_then l P Q)
-
-  pub all_put : (i : ℕ) (b' : List ℕ) (p : ℕ) → Put b at (take i text) b' p → length text ≤ i → Put b at text b' p
-  all_put i b' p P h = put_as (take_all i text h) P
-
-pub ruleset bytes = (put_none, byte_past, byte_put, all_none, all_next, all_put)
+  pub byte_past : length t.out.now ≤ t.at → t'.out.now ≡ t.out.now → Wrote t (x ∷ []) t'
+  byte_past h e = byte_put (e ∙ sym (set_out t.out.now t.at x h))
 
 -- ---- put_mark
 
-module _ (b : List ℕ) (at : ℕ) (t : Bool) where
-  pub mark_put : t ≡ true → (b' : List ℕ) (r : ℕ) → Put b at (33 ∷ []) b' r → Put b at (mark_text t) b' r
-  mark_put e b' r P = rw e P
+module _ (t : Text) (b : Bool) where
+  pub mark_put : b ≡ true → (t' : Text) → Wrote t (33 ∷ []) t' → Wrote t (mark_text b) t'
+  mark_put e t' P = rw e P
 
-  pub mark_none : t ≡ false → at < 2 ^ 64 → Put b at (mark_text t) b at
-  mark_none e h = rw e (put_none b at h)
+  pub mark_none : b ≡ false → Wrote t (mark_text b) t
+  mark_none e = rw e (wrote_none t)
+
+-- ---- a text byte by byte
+
+module _ (t : Text) (text : List ℕ) where
+  pub all_none : Wrote t (take 0 text) t
+  all_none = wrote_none t
+
+  pub all_next : (i : ℕ) (t' : Text) → Wrote t (take i text) t' → i < length text → (t'' : Text) → Wrote t' (get_or text i 0 ∷ []) t''
+      → Wrote t (take (i + 1) text) t''
+  all_next i t' P h t'' Q = rw (add-one i, take-suc text i 0 h) (wrote_then P Q)
+
+  pub all_put : (i : ℕ) (t' : Text) → Wrote t (take i text) t' → length text ≤ i → Wrote t text t'
+  all_put i t' P h = wrote_as (take_all i text h) P
+
+pub ruleset bytes = (all_none, all_next, all_put)

@@ -1,33 +1,40 @@
-// The least parts of a text: a byte put into a lent buffer at a place, the mark of an inversion, and the number that a table is. What has no
-// room is left out, and places go on all the same.
+// The least parts of a text: a lent buffer with the place behind the text in it, a byte put there, the mark of an inversion, and the number
+// that a table is. What has no room is left out, and places go on all the same.
 #![tactic(auto)]
 
-ghost use Rattle.std.specs.Prelude.{◌≡◌, [], ◌∷◌, ◌+◌, ◌*◌};
+ghost use Rattle.std.specs.Prelude.{◌≡◌, [], ◌∷◌, ◌+◌, ◌*◌, ◌^◌, ◌<◌, length};
 ghost use Rattle.model.specs.Listing.{mark_text};
-ghost use Rattle.text_parts.specs.Putting.{place, Put};
 
-// The place behind one byte. The greatest place stands for all beyond.
-fn next(at: usize) -> usize
-    ensures { result ≡ place (at + 1) }
-{
-    at.saturating_add(1)
+// A lent buffer, and the place behind the text in it.
+#[derive(Drop)]
+pub struct Text<'a> {
+    pub out: &'a mut [u8],
+    pub at: usize,
+    ghost fits: { (at < 2 ^ 64) × (length out.now < 2 ^ 64) },
 }
 
-pub fn put(out: &mut [u8], at: usize, b: u8) -> usize
-    ensures { Put out.old at (b ∷ []) out.new result }
-{
-    if out.len() <= at {
-        return next(at);
+impl Text<'_> {
+    ghost use Rattle.text_parts.specs.Putting.{Wrote};
+
+    // The greatest place stands for all beyond.
+    pub fn put(&mut self, b: u8)
+        ensures { Wrote self.old (b ∷ []) self.new }
+    {
+        let at = self.at;
+        self.at = at.saturating_add(1);
+        if at < self.out.len() {
+            self.out[at] = b;
+        }
     }
-    out[at] = b;
-    at + 1
-}
 
-// ! where it is inverted.
-pub fn put_mark(out: &mut [u8], at: usize, inverted: bool) -> usize
-    ensures { Put out.old at (mark_text inverted) out.new result }
-{
-    if inverted { put(out, at, b'!') } else { at }
+    // ! where it is inverted.
+    pub fn put_mark(&mut self, inverted: bool)
+        ensures { Wrote self.old (mark_text inverted) self.new }
+    {
+        if inverted {
+            self.put(b'!');
+        }
+    }
 }
 
 // A table from its two words.

@@ -7,6 +7,10 @@ use native.Mathlib.Omega.{arith}
 use native.Mathlib.Decide.{ℕ_discrete}
 use lib.ListN.{length, length-append}
 use borrow.Author.Tests.{eq-eqb, ne_eqb}
+use Rattle.kinds.specs.Kinds.{code_of, kind_of}
+use Rattle.kinds.specs.declared.Kind.{Kind}
+use Rattle.kinds.specs.declared.Kind.TheVariants.{Lut}
+use Rattle.kinds.proofs.Codes.{kind_code, code_kind}
 use Rattle.model.specs.Gate.{Gate}
 use Rattle.model.specs.Image.{table_words, gate_words, gates_words, body_words, image_of}
 use Rattle.shape.proofs.Sizes.{gates_length}
@@ -18,6 +22,14 @@ use Rattle.tables.proofs.Building.{nodes_of_next, nodes_of_none}
 use Rattle.tables.proofs.Holding.{length_ins_at, length_nodes_of, length_outputs_of, nodes_few, total_few}
 
 -- ---- one record
+
+-- a node's kind, as the code asks for it, is what its code says
+module _ (l : List ℕ) (v k : ℕ) (q : k ≡ kind_at l v) (s : Kind) (e : s ≡ kind_of k) where
+  pub of_lut : kind_at l v < 15 → s ≡ Lut → kind_at l v ≡ 14
+  of_lut f t = sym (code_kind (kind_at l v) f) ∙ ap code_of (ap kind_of (sym q) ∙ sym e ∙ t)
+
+  pub of_other : s ≢ Lut → kind_at l v ≢ 14
+  of_other t p = t (e ∙ ap kind_of (q ∙ p) ∙ kind_code Lut)
 
 module _ (l : List ℕ) (v : ℕ) where
   pub table_plain : kind_at l v ≢ 14 → table_words (gate_at l v) ≡ []

@@ -1,6 +1,6 @@
 -- The laws of writing as the code meets them: a premise is a test, a callee's promise or an invariant, as it stands in a need.
 use mathlib.Core.Path.{◌≡◌, refl, sym, ap, ◌∙◌}
-use mathlib.Core.Logic.{◌≢◌}
+use mathlib.Core.Bool.{Bool, true, false, not}
 use mathlib.Core.List.{List, ◌∷◌, ◌++◌}
 use Prim.Native.Nat.{ℕ, suc, ◌+◌, ◌-◌, ◌*◌, ◌^◌, ◌≤◌, ◌<◌}
 use native.Mathlib.Nat.{le_antisymm}
@@ -8,8 +8,13 @@ use native.Mathlib.Omega.{arith}
 use native.Mathlib.Numerals.{add-one}
 use lib.ListN.{length, take, drop, length-append, length-drop}
 use lib.Seq.{get_or-drop}
+use denote.Enum.Bare.{sameb, same_true, same_false, differs_true, differs_false}
 use mir.Val.{Fits}
 use mir.Syntax.{w64}
+use Rattle.kinds.specs.Kinds.{kind_of}
+use Rattle.kinds.specs.contracts.Kind.{the_type}
+use Rattle.kinds.specs.declared.Kind.{Kind}
+use Rattle.kinds.specs.declared.Kind.TheVariants.{Lut}
 use Rattle.laws.specs.Lists.{tab}
 use Rattle.laws.proofs.Tabs.{tab_ext, length_tab, take_tab}
 use Rattle.model.specs.Image.{table_words, gate_words, gates_words, body_words, net_words, image_of}
@@ -23,20 +28,20 @@ use Rattle.tables.proofs.Holding.{length_nodes_of, inputs_few, nodes_few, outs_f
 use Rattle.image_trailer.specs.Trailers.{put_words, trailer_words, Trailer}
 use Rattle.write_image.specs.Writing.{ins_from, outs_from, mapping_in, Node, Inputs, Writes, Put, Room, Outputs, Mapped}
 use Rattle.write_image.proofs.Stored.{put_words_append, put_words_laid, put_none, put_more, put_next}
-use Rattle.write_image.proofs.Sizes.{table_plain, table_lut, length_table, record_words, length_record, words_none, words_next, length_next, length_within, length_image, words_few}
+use Rattle.write_image.proofs.Sizes.{of_lut, of_other, table_plain, table_lut, length_table, record_words, length_record, words_none, words_next, length_next, length_within, length_image, words_few}
 
 -- ---- record_len and image_len
 
 pub node_held : (l : List ℕ) (c : Counts) (v : ℕ) → Held l c → v < c.nodes → Node l v
 node_held l c v H h = record { long = H.long; few = omega (arith, nodes_few l c H); ends = H.ends v h; known = kind_known l c H v h }
 
-module _ (l : List ℕ) (v n k : ℕ) (e : n ≡ count_at l v) (q : k ≡ kind_at l v) where
-  pub len_lut : k ≡ 14 → n + 3 ≡ length (gate_words (gate_at l v))
-  len_lut t = omega (arith, length_record l v, length_table l v (sym q ∙ t))
+module _ (l : List ℕ) (v n : ℕ) (a : n ≡ count_at l v) (k : ℕ) (q : k ≡ kind_at l v) (s : Kind) (e : s ≡ kind_of k) (b : Bool) (d : b ≡ sameb the_type s Lut) where
+  pub len_lut : Node l v → b ≡ true → n + 3 ≡ length (gate_words (gate_at l v))
+  len_lut N t = omega (arith, length_record l v, length_table l v (of_lut l v k q s e N.known (same_true the_type tt s Lut (sym d ∙ t))))
 
-  pub len_plain : k ≢ 14 → n + 1 ≡ length (gate_words (gate_at l v))
+  pub len_plain : b ≡ false → n + 1 ≡ length (gate_words (gate_at l v))
   len_plain t =
-      let z : length (table_words (gate_at l v)) ≡ 0 = ap length (table_plain l v (λ p. t (q ∙ p))) in
+      let z : length (table_words (gate_at l v)) ≡ 0 = ap length (table_plain l v (of_other l v k q s e (same_false the_type s Lut (sym d ∙ t)))) in
       omega (arith, length_record l v)
 
 pub len_none : (l : List ℕ) → 0 ≡ length (gates_words (nodes_of l 0))
@@ -106,26 +111,29 @@ module _ (l : List ℕ) (n : ℕ) (b : List ℕ) (at : ℕ) (P : Outputs l n b a
 
 -- ---- write_table and write_gate
 
-module _ (l : List ℕ) (v : ℕ) (out : List ℕ) (at : ℕ) where
-  pub put_plain : (k : ℕ) → k ≡ kind_at l v → k ≢ 14 → Put out at (table_words (gate_at l v)) out at
-  put_plain k q t = rw (table_plain l v (λ p. t (q ∙ p))) (put_none out at)
+module _ (l : List ℕ) (v : ℕ) (out : List ℕ) (at : ℕ) (W : Writes l v (table_words (gate_at l v)) out at) (k : ℕ) (q : k ≡ kind_at l v) (s : Kind)
+    (e : s ≡ kind_of k) (b : Bool) (d : b ≡ not (sameb the_type s Lut)) where
+  pub put_plain : b ≡ true → Put out at (table_words (gate_at l v)) out at
+  put_plain t = rw (table_plain l v (of_other l v k q s e (differs_true the_type s Lut (sym d ∙ t)))) (put_none out at)
 
-  module _ (k : ℕ) (q : k ≡ kind_at l v) (t : k ≡ 14) where
-    module _ (W : Writes l v (table_words (gate_at l v)) out at) where
-      table_room : at + 8 ≤ length out
-      table_room = omega (arith, W.room, length_table l v (sym q ∙ t))
+  module _ (t : b ≡ false) where
+    is_lut : kind_at l v ≡ 14
+    is_lut = of_lut l v k q s e W.node.known (differs_false the_type tt s Lut (sym d ∙ t))
 
-      pub low_room : at + 4 ≤ length out
-      low_room = omega (arith, table_room)
+    table_room : at + 8 ≤ length out
+    table_room = omega (arith, W.room, length_table l v is_lut)
 
-      pub high_room : (n : ℕ) → n ≡ length out → at + 4 + 4 ≤ n
-      high_room n s = omega (arith, table_room)
+    pub low_room : at + 4 ≤ length out
+    low_room = omega (arith, table_room)
+
+    pub high_room : (n : ℕ) → n ≡ length out → at + 4 + 4 ≤ n
+    high_room n s = omega (arith, table_room)
 
     pub put_lut : (low high : ℕ) → low ≡ low_at l v → high ≡ high_at l v → low < 4294967296 → (out1 out2 : List ℕ) → out1 ≡ put_word out at low
         → out2 ≡ put_word out1 (at + 4) high → Put out at (table_words (gate_at l v)) out2 (at + 8)
     unfolding put_words
     put_lut low high a z f out1 out2 e1 e2 =
-        rw (table_lut l v (sym q ∙ t) (rw (← a) f))
+        rw (table_lut l v is_lut (rw (← a) f))
         (record { bytes = e2 ∙ rw (e1, a, z); end = omega arith })
 
 module _ (l : List ℕ) (v : ℕ) (out : List ℕ) (at : ℕ) (W : Writes l v (gate_words (gate_at l v)) out at) where

@@ -10,6 +10,7 @@ ghost use Rattle.image_trailer.specs.Trailers.{put_words};
 ghost use Rattle.write_image.specs.Writing.{ins_from, outs_from, mapping_in, Node, Inputs, Writes, Put, Room, Outputs, Mapped};
 
 use image_trailer::write_trailer;
+use kinds::{Kind, kind_of};
 use tables::counts::Counts;
 use tables::layout::{count_at, first_at, high_at, input_at, kind_at, low_at, output_at};
 use tables::scratch::TR;
@@ -21,7 +22,11 @@ fn record_len(from: &[u32], v: usize) -> usize
     ensures { result ≡ length (gate_words (gate_at from.now v)) }
 {
     let n = count_at(from, v);
-    if kind_at(from, v) == 14 { n + 3 } else { n + 1 }
+    if kind_of(kind_at(from, v)) == Kind::Lut {
+        n + 3
+    } else {
+        n + 1
+    }
 }
 
 // The bytes of the image.
@@ -52,7 +57,7 @@ fn write_table(from: &[u32], v: usize, out: &mut [u8], at: usize) -> usize
     requires { Writes from.now v (table_words (gate_at from.now v)) out.old at }
     ensures { Put out.old at (table_words (gate_at from.now v)) out.new result }
 {
-    if kind_at(from, v) != 14 {
+    if kind_of(kind_at(from, v)) != Kind::Lut {
         return at;
     }
     put_word(out, at, low_at(from, v));

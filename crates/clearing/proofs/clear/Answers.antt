@@ -1,10 +1,10 @@
 use mathlib.Core.Path.{refl}
-use Rattle.clearing.proofs.Zeros.{fronts_more, blocks}
+use Rattle.clearing.proofs.Zeros.{fronts_part, blocks}
 use borrow.Author.Rules.{rules}
 use Rattle.clearing.proofs.clear.Goals as goal
 
 pub loop-k-preserved : goal.loop-k-preserved
-loop-k-preserved c = fronts_more _ c.requires _ _ c.loop-k.invariant _ _ _ c.loop-k-test.true refl c.clear_block.ensures refl (search rules)
+loop-k-preserved c = fronts_part _ c.requires _ _ c.loop-k.invariant _ _ _ c.loop-k-test.true refl c.clear_block.ensures refl (search rules)
 
 pub returns : goal.returns
 returns c = search (rules, blocks)

@@ -1,5 +1,4 @@
 -- Both areas are long enough where neither is short, and what the work left in them is cleared.
-use mathlib.Core.Path.{sym, refl}
 use borrow.Author.Rules.{rules}
 use Rattle.tables.proofs.Entering.{long_a, long_b, areas_both, both}
 use Rattle.lending.proofs.lend.Goals as goal

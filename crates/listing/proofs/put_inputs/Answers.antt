@@ -8,4 +8,4 @@ loop-j-init c = search (rules, inputs)
 
 pub loop-j-preserved : goal.loop-j-preserved
 loop-j-preserved c = let i = c.loop-j.invariant in
-    (omega arith, omega arith, inputs_next _ _ _ _ _ _ (omega arith) c.input_at-a.ensures i.2 c.put-space.ensures c.put_signal-p.ensures)
+    (omega arith, inputs_next _ _ _ _ _ c.input_at-a.ensures i.1 c.put.ensures c.put_signal.ensures)

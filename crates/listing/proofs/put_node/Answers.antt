@@ -1,9 +1,8 @@
 -- `put_node`: each need by its law.
-use native.Mathlib.Omega.{arith}
 use Rattle.listing.proofs.Lines.{node_put}
 use Rattle.listing.proofs.put_node.Goals as goal
 
 pub returns : goal.returns
-returns c = node_put _ _ _ _ _ (omega arith) c.kind_at.ensures
+returns c = node_put _ _ _ _ _ c.kind_at.ensures
     c.first_at.ensures c.count_at.ensures
-    c.put_head-head.ensures c.put_inputs-inputs.ensures c.put_table-end.ensures c.put.ensures
+    c.put_head.ensures c.put_inputs.ensures c.put_table.ensures c.put.ensures

@@ -1,7 +1,6 @@
 -- `put_output`: each need by its law.
-use native.Mathlib.Omega.{arith}
 use Rattle.listing.proofs.Lines.{output_put}
 use Rattle.listing.proofs.put_output.Goals as goal
 
 pub returns : goal.returns
-returns c = output_put _ _ (omega arith) c.put_name-name.ensures c.put-space.ensures c.put_signal-end.ensures c.put.ensures
+returns c = output_put _ _ c.put_name.ensures c.put.ensures c.put_signal.ensures c.put-2.ensures

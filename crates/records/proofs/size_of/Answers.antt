@@ -4,10 +4,10 @@ use borrow.Author.Tests.{eq-eqb, ne_eqb}
 use Rattle.records.specs.Layouts.{size_of}
 use Rattle.records.proofs.size_of.Goals as goal
 
-pub returns-then-h-eq14 : goal.returns-then-h-eq14
+pub returns-then-h : goal.returns-then-h
 unfolding size_of
-returns-then-h-eq14 c = simp (eq-eqb _ _ c.if-h-eq14.true) (omega arith)
+returns-then-h c = simp (eq-eqb _ _ c.if-h.true) (omega arith)
 
-pub returns-else-h-eq14 : goal.returns-else-h-eq14
+pub returns-else-h : goal.returns-else-h
 unfolding size_of
-returns-else-h-eq14 c = simp (ne_eqb _ _ c.if-h-eq14.false) (omega arith)
+returns-else-h c = simp (ne_eqb _ _ c.if-h.false) (omega arith)

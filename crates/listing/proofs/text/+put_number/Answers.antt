@@ -5,5 +5,5 @@ use Rattle.listing.proofs.text.+put_number.Goals as goal
 pub returns-then-n-lt10 : goal.returns-then-n-lt10
 returns-then-n-lt10 t c = search (rules, numbers)
 
-pub returns : goal.returns
-returns t c = search (rules, numbers)
+pub returns-else-n-lt10 : goal.returns-else-n-lt10
+returns-else-n-lt10 t c = search (rules, numbers)

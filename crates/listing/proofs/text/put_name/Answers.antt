@@ -1,7 +1,6 @@
--- `put_name`: each need by its law.
-use borrow.Author.Rules.{rules}
-use Rattle.listing.proofs.Texts.{numbers}
+-- `put_name`: the letter, then the number.
+use Rattle.text_parts.proofs.Puts.{wrote_then}
 use Rattle.listing.proofs.text.put_name.Goals as goal
 
 pub returns : goal.returns
-returns c = search (rules, numbers)
+returns c = wrote_then c.put.ensures c.put_number.ensures

@@ -9,5 +9,5 @@ returns-then-is_constant c = search (rules, signals)
 pub returns-then-is_input : goal.returns-then-is_input
 returns-then-is_input c = search (rules, signals)
 
-pub returns : goal.returns
-returns c = search (rules, signals)
+pub returns-else-is_input : goal.returns-else-is_input
+returns-else-is_input c = search (rules, signals)

@@ -1,7 +1,6 @@
 -- `cleanup`: its work gets long areas, and what `lend` gives is the promise.
 use borrow.Author.Rules.{rules}
 use Rattle.model.specs.Entries.{cleanup_outcome}
-use Rattle.tables.specs.Working.{Areas}
 use Rattle.network_passes.specs.Passes.{cleanup_pass}
 use Rattle.network_work.specs.Works.{cleanup_work}
 use Rattle.lending.proofs.Entered.{lent_areas, entered2}

@@ -1,7 +1,6 @@
 -- `dedup`: its work gets long areas, and what `lend` gives is the promise.
 use borrow.Author.Rules.{rules}
 use Rattle.model.specs.Entries.{dedup_outcome}
-use Rattle.tables.specs.Working.{Areas}
 use Rattle.network_work.specs.Works.{dedup_pass, dedup_work}
 use Rattle.lending.proofs.Entered.{lent_areas, entered2}
 use Rattle.network.proofs.deduplicate.dedup.Goals as goal

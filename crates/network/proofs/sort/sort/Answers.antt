@@ -1,7 +1,6 @@
 -- `sort`: its work gets long areas, and what `lend` gives is the promise.
 use borrow.Author.Rules.{rules}
 use Rattle.model.specs.Entries.{sort_outcome}
-use Rattle.tables.specs.Working.{Areas}
 use Rattle.network_passes.specs.Passes.{sort_pass}
 use Rattle.network_work.specs.Works.{sort_work}
 use Rattle.lending.proofs.Entered.{lent_areas, entered2}

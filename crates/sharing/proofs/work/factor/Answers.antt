@@ -1,7 +1,6 @@
 -- `factor`: what refuses it, 9 among that, or what is written.
 use mathlib.Core.Path.{◌∙◌}
 use Rattle.std.proofs.lemmas.Result.{err_from_is_err_and}
-use Rattle.stages.specs.Stages.{Staged}
 use Rattle.stages.proofs.Staging.{staged_number}
 use Rattle.sharing.specs.Works.{factor_pass}
 use Rattle.sharing.proofs.Passing.{factor_is, factor_repeats, factor_left, factor_staged, work_refused, work_asks, workable_nodes, stage_refused, stage_held, stage_written}

@@ -1,6 +1,6 @@
 use Rattle.signal_values.proofs.Deciding.{decides}
 use borrow.Author.Rules.{rules}
-use Rattle.signal_values.proofs.all_are.Goals as goal
+use Rattle.signal_values.proofs.gate_inputs.Inputs.all_are.Goals as goal
 
 pub loop-j-init : goal.loop-j-init
 loop-j-init c = search (rules, decides)

@@ -1,6 +1,6 @@
 use Rattle.signal_values.proofs.Turns.{turns}
 use borrow.Author.Rules.{rules}
-use Rattle.signal_values.proofs.ones.Goals as goal
+use Rattle.signal_values.proofs.gate_inputs.Inputs.ones.Goals as goal
 
 pub loop-j-init : goal.loop-j-init
 loop-j-init c = search (rules, turns)
