@@ -1,7 +1,7 @@
 -- The laws of fields and lines as the code meets them.
 use mathlib.Core.Path.{◌≡◌, refl, sym, ap, ◌∙◌}
 use mathlib.Core.Logic.{◌≢◌}
-use Prim.Native.Nat.{ℕ, suc, ◌+◌, ◌*◌, ◌≤◌, ◌<◌}
+use Prim.Native.Nat.{ℕ, suc, ◌+◌, ◌*◌, ◌<◌}
 use native.Mathlib.Omega.{arith}
 use native.Mathlib.Numerals.{add-one}
 use mathlib.Core.List.{List, [], ◌∷◌, ◌++◌, map, map-append, append_assoc, append-nil}
@@ -70,11 +70,6 @@ module _ (l : List ℕ) (first : ℕ) (t : Text) where
       ∙ ap (λ (x : List ℕ). spaced (map signal_text (tab f j)) ++ x) z in
       wrote_as (append_assoc (spaced (map signal_text (tab f j))) (32 ∷ []) (signal_text s) ∙ sym w ∙ ap (λ (m : ℕ). spaced (map signal_text (tab f m))) (sym (add-one j))) (wrote_then (wrote_then P S) Q)
 
-  pub inputs_end : (j n : ℕ) (t1 : Text) → n ≤ j → j ≤ n → Wrote t (inputs_text l first j) t1 → Wrote t (inputs_text l first n) t1
-  inputs_end j n t1 h k P = let e : j ≡ n = omega arith in rw (← e) P
-
-pub ruleset inputs = (inputs_none, inputs_next, inputs_end)
-
 -- ---- put_table and put_node
 
 module _ (l : List ℕ) (v : ℕ) (t : Text) (k : ℕ) (q : k ≡ kind_at l v) where
@@ -131,9 +126,6 @@ module _ (l : List ℕ) (t : Text) where
   unfolding nodes_of
   nodes_next v t1 t2 Q P = rw (add-one v) (wrote_as (sym (numbered_tab node_line (gate_at l) v)) (wrote_then P Q))
 
-  pub nodes_end : (v n : ℕ) (t1 : Text) → n ≤ v → v ≤ n → Wrote t (numbered node_line 0 (nodes_of l v)) t1 → Wrote t (numbered node_line 0 (nodes_of l n)) t1
-  nodes_end v n t1 h k P = let e : v ≡ n = omega arith in rw (← e) P
-
   pub outputs_none : Wrote t (numbered output_line 0 (outputs_of l 0)) t
   unfolding outputs_of tab numbered
   outputs_none = wrote_none t
@@ -143,14 +135,8 @@ module _ (l : List ℕ) (t : Text) where
   unfolding outputs_of
   outputs_next o s t1 t2 e Q P = rw (add-one o) (wrote_as (sym (numbered_tab output_line (output_at l) o)) (rw (← e) (wrote_then P Q)))
 
-  pub outputs_end : (o m : ℕ) (t1 : Text) → m ≤ o → o ≤ m → Wrote t (numbered output_line 0 (outputs_of l o)) t1
-      → Wrote t (numbered output_line 0 (outputs_of l m)) t1
-  outputs_end o m t1 h k P = let e : o ≡ m = omega arith in rw (← e) P
-
 pub node_held : (l : List ℕ) (c : Counts) (v : ℕ) → Held l c → v < c.nodes → Node l v
 node_held l c v H h = record { long = H.long; few = omega (arith, nodes_few l c H); ends = H.ends v h }
-
-pub ruleset walks = (nodes_none, nodes_next, nodes_end, node_held)
 
 pub output_put : (o s : ℕ) {t t1 t2 t3 t4 : Text} → Wrote t (111 ∷ decimal o) t1 → Wrote t1 (32 ∷ []) t2 → Wrote t2 (signal_text s) t3
     → Wrote t3 (10 ∷ []) t4 → Wrote t (output_line o s) t4
@@ -158,7 +144,7 @@ unfolding output_line line spaced
 output_put o s P1 P2 P3 P4 =
     wrote_as (simp append_assoc) (wrote_then (wrote_then (wrote_then P1 P2) P3) P4)
 
-pub ruleset outputs = (outputs_none, outputs_next, outputs_end)
+pub ruleset outputs = (outputs_none, outputs_next)
 
 -- ---- put_listing
 

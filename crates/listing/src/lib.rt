@@ -57,7 +57,7 @@ fn put_table(to: &mut Text, from: &[u32], v: usize)
     requires { Node from.now v }
     ensures { Wrote to.old (spaced (table_fields (gate_at from.now v))) to.new }
 {
-    if kind_at(from, v) == 14 {
+    if kind_at(from, v) == Kind::Lut as u32 {
         to.put(b' ');
         put_number(to, table(low_at(from, v), high_at(from, v)));
     }

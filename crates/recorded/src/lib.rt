@@ -1,7 +1,7 @@
 // A record of docs/RECORDED.md as its bytes: the 16 words of its head and the parts of its data behind them.
 #![tactic(auto)]
 
-ghost use Rattle.std.specs.Prelude.{◌<◌, ◌≤◌, length};
+ghost use Rattle.std.specs.Prelude.{◌<◌, ◌≤◌, ◌≡◌, ◌++◌, length, IfSome};
 
 use crate::buffers::slice;
 use words::nth;
@@ -134,7 +134,9 @@ fn is_in_bounds(record: &[u8]) -> bool {
 }
 
 // The record that a file's rest begins with, and what follows it; none where it is not whole or out of bounds.
-pub fn first(rest: &[u8]) -> Option<(&[u8], &[u8])> {
+pub fn first(rest: &[u8]) -> Option<(&[u8], &[u8])>
+    ensures { IfSome result (λ p. p.0.now ++ p.1.now ≡ rest.now) }
+{
     if is_in_bounds(rest) {
         rest.split_at_checked(end(rest, &PARTS))
     } else {

@@ -2,3 +2,4 @@ pub mod Tabled
 pub mod Moves
 pub mod Numbers
 pub mod Whole
+pub mod Mapping

@@ -2,7 +2,9 @@
 // mapping in the tables behind its network.
 #![tactic(auto)]
 
-ghost use Rattle.std.specs.Prelude.{◌≡◌};
+ghost use Rattle.std.specs.Prelude.{◌≡◌, ◌≤◌, length};
+ghost use Rattle.model.specs.Signal.{remap_order};
+ghost use Rattle.tables.specs.Layout.{span, cell, tr_base};
 ghost use Rattle.tables.specs.Building.{put_inputs};
 ghost use Rattle.translation.specs.Tables.{tr_of};
 ghost use Rattle.remap.specs.Remapping.{inputs_by, Copying, Placing, Put, Mapping, Mapped, Numbering, Numbered, Orders, Remapped};
@@ -13,16 +15,25 @@ use tables::layout::{
     count_at, first_at, high_at, input_at, kind_at, low_at, put_gate, put_input, put_table,
 };
 use tables::scratch::{ORDER, TR, number, put_word};
-use translation::{clear_table, remap_outputs, translate};
+use translation::{clear_table, remap_outputs};
 
 pub mod nodes;
+
+// A signal through the mapping and the words behind it.
+// stays: `translation::translate` ends at the table's 512 words, and this promise, which does not, may not change.
+pub fn translate(to: &[u32], s: u32) -> u32
+    requires { span ≤ length to.now }
+    ensures { result ≡ remap_order (cell to.now tr_base) s }
+{
+    Signal { a: s }.remap_order(&to[TR..]).a
+}
 
 fn copy_inputs(from: &[u32], to: &mut [u32], f: usize, at: usize, n: usize)
     requires { Copying from.now to.old f at n }
     ensures { to.new ≡ put_inputs to.old at (inputs_by from.now (tr_of to.old) f) n }
 {
     for j in 0..n {
-        let s = translate(to, input_at(from, f + j));
+        let s = translation::translate(to, input_at(from, f + j));
         put_input(to, at + j, s);
     }
 }

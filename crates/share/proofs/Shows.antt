@@ -1,10 +1,10 @@
 -- Texts at the front of a lent buffer: what each function met, and what it shows.
-use mathlib.Core.Path.{◌≡◌, sym, ap, ◌∙◌, subst}
-use Prim.Native.Nat.{ℕ, ◌+◌, ◌-◌, ◌≤◌, ◌<◌, ◌^◌}
+use mathlib.Core.Path.{◌≡◌, sym, ap, ◌∙◌}
+use Prim.Native.Nat.{ℕ, ◌≤◌, ◌<◌}
 use native.Mathlib.Omega.{arith}
 use mathlib.Core.Bool.{◌&&◌}
 use mathlib.Core.List.{List, [], ◌∷◌, ◌++◌, append_assoc}
-use lib.ListN.{length, take, drop, length-append, replicate, length-replicate}
+use lib.ListN.{length, take, drop, length-append}
 use lib.Seq.{take_at}
 use lib.Dec.{eqb, leb}
 use borrow.Author.Tests.{lt-ltb, le-ltb}
@@ -15,13 +15,12 @@ use Rattle.laws.proofs.Choices.{by_bool}
 use Rattle.model.specs.Answers.{Outcome, refused, written, evaluated, answer_of, result_after, laid_over, areas_short, in_areas, in_room, unless, Kept}
 use Rattle.model.specs.Image.{refusal_of, net_of}
 use Rattle.model.specs.Listing.{ascii, decimal, line, spaced, listing_of}
-use Rattle.tables.specs.Layout.{net_size}
 use Rattle.tables.specs.Working.{Answered}
 use Rattle.text_parts.specs.Putting.{Put, Wrote}
 use Rattle.text_parts.specs.declared.Text.{Text}
 use Rattle.listing.proofs.Decimals.{decimal_short}
 use Rattle.text_parts.proofs.Puts.{wrote_then, wrote_as, put_text_laid}
-use Rattle.share.specs.Texts.{refused_text, list_outcome, text_for, printed_for, printed_of, Shown, Lent}
+use Rattle.share.specs.Texts.{refused_text, list_outcome, text_for, printed_for, printed_of, Shown}
 
 -- ---- refuse
 
@@ -45,18 +44,6 @@ refused_shown n {b} {b'} {r} h l P =
       end = omega (arith, P.behind);
       room = omega arith;
     }
-
--- ---- the program's own buffers
-
-pub lent_zeros : (m n : ℕ) → net_size ≤ m → 32768 ≤ n → Lent (replicate m 0) (replicate n 0)
-lent_zeros m n h k = record {
-  long = subst (λ (x : ℕ). net_size ≤ x) (sym (length-replicate {0} {A = ℕ} m 0)) h;
-  room = subst (λ (x : ℕ). 32768 ≤ x) (sym (length-replicate {0} {A = ℕ} n 0)) k;
-}
-
--- a text is within the buffer that it was shown in
-pub shown_within : (text b b' : List ℕ) (r n : ℕ) → Shown text b b' r → length b ≡ n → length b' ≡ n → r ≤ length b'
-shown_within text b b' r n S e f = let x = S.end in let y = S.room in omega arith
 
 -- ---- an outcome that is no cycle's
 
@@ -162,4 +149,4 @@ image_room o h out a b x out1 a1 b1 K n q l =
     let S = outcome_written o h out n out1 (sym (ap numbered q) ∙ K.answer) K.result l in
     omega (arith, S.end, S.room)
 
-pub ruleset answers = (answer_short, answer_long, answer_refused, answer_listed, image_room)
+pub ruleset answers = (answer_refused, answer_listed, image_room)

@@ -57,10 +57,7 @@ fn answer(input: &[u8], out: &mut [u8], a: &mut [u32], b: &mut [u32], text: &mut
     requires { Lent a.old text.old }
     ensures { Shown (printed_of input.now out.old a.old b.old (length text.old)) text.old text.new result }
 {
-    if input.len() < 4 {
-        return refuse(Refusal::Frame, text);
-    }
-    if 16384 < input.len() {
+    if input.len() < 4 || 16384 < input.len() {
         return refuse(Refusal::Frame, text);
     }
     let limit = word_at(input, 0);

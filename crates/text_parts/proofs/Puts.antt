@@ -5,10 +5,10 @@ use native.Mathlib.Nat.{le_of_suc-le-suc, not-suc-le-zero}
 use native.Mathlib.Omega.{arith}
 use native.Mathlib.Decide.{dec_lt}
 use native.Mathlib.Numerals.{add-one}
-use mathlib.Core.Bool.{Bool, true, false}
+use mathlib.Core.Bool.{Bool, false}
 use mathlib.Core.List.{List, [], ◌∷◌, ◌++◌}
 use lib.ListN.{length, set, drop, get_or, take, length-append, length-set}
-use lib.Seq.{set_out, set-append_seam, append_snoc, take-suc, take_all}
+use lib.Seq.{set_out, set-append_seam, append_snoc, take-suc}
 use Rattle.model.specs.Answers.{laid_over}
 use Rattle.model.specs.Listing.{mark_text}
 use Rattle.text_parts.specs.declared.Text.{Text}
@@ -97,12 +97,8 @@ module _ (t : Text) (x : ℕ) (t' : Text) (behind : t'.at ≡ place (t.at + 1)) 
 
 -- ---- put_mark
 
-module _ (t : Text) (b : Bool) where
-  pub mark_put : b ≡ true → (t' : Text) → Wrote t (33 ∷ []) t' → Wrote t (mark_text b) t'
-  mark_put e t' P = rw e P
-
-  pub mark_none : b ≡ false → Wrote t (mark_text b) t
-  mark_none e = rw e (wrote_none t)
+pub mark_none : (t : Text) (b : Bool) → b ≡ false → Wrote t (mark_text b) t
+mark_none t b e = rw e (wrote_none t)
 
 -- ---- a text byte by byte
 
@@ -114,7 +110,4 @@ module _ (t : Text) (text : List ℕ) where
       → Wrote t (take (i + 1) text) t''
   all_next i t' P h t'' Q = rw (add-one i, take-suc text i 0 h) (wrote_then P Q)
 
-  pub all_put : (i : ℕ) (t' : Text) → Wrote t (take i text) t' → length text ≤ i → Wrote t text t'
-  all_put i t' P h = wrote_as (take_all i text h) P
-
-pub ruleset bytes = (all_none, all_next, all_put)
+pub ruleset bytes = (all_none, all_next)

@@ -5,7 +5,7 @@
 ghost use Rattle.std.specs.Prelude.{◌≡◌, [], ◌∷◌, ◌+◌, ◌*◌, ◌^◌, ◌<◌, length};
 ghost use Rattle.model.specs.Listing.{mark_text};
 
-// A lent buffer, and the place behind the text in it.
+// A lent buffer, and the place behind the text in it. What `fits` says holds of any place and any buffer: it is there for the laws.
 #[derive(Drop)]
 pub struct Text<'a> {
     pub out: &'a mut [u8],

@@ -15,11 +15,6 @@ use Rattle.words.proofs.Laws.{put_word_list, length_put_word}
 use Rattle.image_trailer.specs.Trailers.{put_words}
 use Rattle.write_image.specs.Writing.{Put}
 
-pub length_put_words : (b : List ℕ) (at : ℕ) (ws : List ℕ) → length (put_words b at ws) ≡ length b
-unfolding put_words
-length_put_words b at [] = refl
-length_put_words b at (w ∷ ws) = length_put_words (put_word b at w) (at + 4) ws ∙ length_put_word b at w
-
 pub put_words_append : (b : List ℕ) (at : ℕ) (xs ys : List ℕ) → put_words b at (xs ++ ys) ≡ put_words (put_words b at xs) (at + 4 * length xs) ys
 unfolding put_words
 put_words_append b at [] ys = ap (λ (n : ℕ). put_words b n ys) (omega arith)

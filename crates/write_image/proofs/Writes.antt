@@ -2,7 +2,7 @@
 use mathlib.Core.Path.{◌≡◌, refl, sym, ap, ◌∙◌}
 use mathlib.Core.Bool.{Bool, true, false, not}
 use mathlib.Core.List.{List, ◌∷◌, ◌++◌}
-use Prim.Native.Nat.{ℕ, suc, ◌+◌, ◌-◌, ◌*◌, ◌^◌, ◌≤◌, ◌<◌}
+use Prim.Native.Nat.{ℕ, suc, ◌+◌, ◌-◌, ◌*◌, ◌≤◌, ◌<◌}
 use native.Mathlib.Nat.{le_antisymm}
 use native.Mathlib.Omega.{arith}
 use native.Mathlib.Numerals.{add-one}
@@ -21,7 +21,7 @@ use Rattle.model.specs.Image.{table_words, gate_words, gates_words, body_words, 
 use Rattle.model.specs.Answers.{laid_over}
 use Rattle.model.proofs.Bytes.{length_bytes}
 use Rattle.words.specs.Stores.{put_word}
-use Rattle.tables.specs.Layout.{net_size, kind_at, first_at, count_at, input_at, low_at, high_at, output_at, ins_at, gate_at, nodes_of, outputs_of, net_of, cell, tr_base}
+use Rattle.tables.specs.Layout.{kind_at, first_at, count_at, input_at, low_at, high_at, output_at, ins_at, gate_at, nodes_of, outputs_of, net_of, cell, tr_base}
 use Rattle.tables.specs.Holding.{network_of, Held}
 use Rattle.tables.specs.declared.counts.Counts.{Counts}
 use Rattle.tables.proofs.Holding.{length_nodes_of, inputs_few, nodes_few, outs_few, kind_known}
@@ -79,14 +79,10 @@ module _ (l : List ℕ) (first n : ℕ) (b : List ℕ) (at : ℕ) (P : Inputs l 
   ins_none = refl
 
   module _ (b' : List ℕ) (j : ℕ) (I : (j ≤ n) × (length b' ≡ length b) × (b' ≡ put_words b at (ins_from l first j))) where
-    module _ (h : j < n) where
-      pub ins_place : Fits w64 (first + j)
-      ins_place = record { fits = omega (arith, P.inside) }
-
-      pub ins_next : (s : ℕ) → s ≡ input_at l (first + j) → (b'' : List ℕ) → length b'' ≡ length b' → b'' ≡ put_word b' (at + 4 * j) s
-          → (j + 1 ≤ n) × (length b'' ≡ length b) × (b'' ≡ put_words b at (ins_from l first (j + 1)))
-      unfolding ins_from
-      ins_next s k b'' z q = (omega arith, z ∙ I.1, rw add-one (q ∙ put_next b at (λ i. input_at l (first + i)) j b' I.2 s k))
+    pub ins_next : j < n → (s : ℕ) → s ≡ input_at l (first + j) → (b'' : List ℕ) → length b'' ≡ length b' → b'' ≡ put_word b' (at + 4 * j) s
+        → (j + 1 ≤ n) × (length b'' ≡ length b) × (b'' ≡ put_words b at (ins_from l first (j + 1)))
+    unfolding ins_from
+    ins_next h s k b'' z q = (omega arith, z ∙ I.1, rw add-one (q ∙ put_next b at (λ i. input_at l (first + i)) j b' I.2 s k))
 
 module _ (l : List ℕ) (n : ℕ) (b : List ℕ) (at : ℕ) (P : Outputs l n b at) where
   pub outs_none : b ≡ put_words b at (outs_from l 0)
@@ -94,20 +90,10 @@ module _ (l : List ℕ) (n : ℕ) (b : List ℕ) (at : ℕ) (P : Outputs l n b a
   outs_none = refl
 
   module _ (b' : List ℕ) (j : ℕ) (I : (j ≤ n) × (length b' ≡ length b) × (b' ≡ put_words b at (outs_from l j))) where
-    module _ (h : j < n) where
-      pub outs_at : length b < 2 ^ 64 → Fits w64 (at + 4 * j)
-      outs_at f = record { fits = omega (arith, P.room) }
-
-      pub outs_read : (j < 64) × (net_size ≤ length l)
-      outs_read = (omega (arith, P.few), P.long)
-
-      pub outs_room : at + 4 * j + 4 ≤ length b'
-      outs_room = rw I.1 (omega (arith, P.room))
-
-      pub outs_next : (s : ℕ) → s ≡ output_at l j → (b'' : List ℕ) → length b'' ≡ length b' → b'' ≡ put_word b' (at + 4 * j) s
-          → (j + 1 ≤ n) × (length b'' ≡ length b) × (b'' ≡ put_words b at (outs_from l (j + 1)))
-      unfolding outs_from
-      outs_next s k b'' z q = (omega arith, z ∙ I.1, rw add-one (q ∙ put_next b at (output_at l) j b' I.2 s k))
+    pub outs_next : j < n → (s : ℕ) → s ≡ output_at l j → (b'' : List ℕ) → length b'' ≡ length b' → b'' ≡ put_word b' (at + 4 * j) s
+        → (j + 1 ≤ n) × (length b'' ≡ length b) × (b'' ≡ put_words b at (outs_from l (j + 1)))
+    unfolding outs_from
+    outs_next h s k b'' z q = (omega arith, z ∙ I.1, rw add-one (q ∙ put_next b at (output_at l) j b' I.2 s k))
 
 -- ---- write_table and write_gate
 
@@ -141,9 +127,6 @@ module _ (l : List ℕ) (v : ℕ) (out : List ℕ) (at : ℕ) (W : Writes l v (g
   head_room = omega (arith, W.room, length_record l v)
 
   module _ (n : ℕ) (e : n ≡ count_at l v) where
-    pub ins_end : length out < 2 ^ 64 → Fits w64 (at + 4 + 4 * n)
-    ins_end f = record { fits = omega (arith, W.room, length_record l v) }
-
     pub gate_inputs : (first : ℕ) → first ≡ first_at l v → (out1 : List ℕ) → length out1 ≡ length out → Inputs l first n out1 (at + 4)
     gate_inputs first f out1 s = record {
       long = W.node.long;

@@ -1,3 +1,4 @@
+-- `put_outputs`: each need by its law.
 use borrow.Author.Rules.{rules}
 use Rattle.listing.proofs.Lines.{outputs}
 use Rattle.listing.proofs.put_outputs.Goals as goal

@@ -3,8 +3,5 @@ use borrow.Author.Rules.{rules}
 use Rattle.share.proofs.Shows.{shows}
 use Rattle.share.proofs.show.Goals as goal
 
-pub returns-in-Err : goal.returns-in-Err
-returns-in-Err c = search (rules, shows)
-
 pub returns-in-Ok : goal.returns-in-Ok
 returns-in-Ok c = search (rules, shows)

@@ -1,3 +1,4 @@
+-- `put_number`: each need by its law.
 use borrow.Author.Rules.{rules}
 use Rattle.listing.proofs.Texts.{numbers}
 use Rattle.listing.proofs.text.+put_number.Goals as goal

@@ -1,3 +1,4 @@
+-- `put_all`: each need by its law.
 use borrow.Author.Rules.{rules}
 use Rattle.text_parts.proofs.Puts.{bytes}
 use Rattle.listing.proofs.text.put_all.Goals as goal
