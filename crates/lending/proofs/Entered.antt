@@ -11,10 +11,10 @@ use Rattle.refusals.specs.declared.Refusal.{Refusal}
 use Rattle.refusals.specs.declared.Refusal.TheVariants as refusal
 use Rattle.model.specs.Answers.{Outcome, areas_short, in_areas, area_after, Kept, Kept2}
 use Rattle.tables.specs.Working.{Areas, Cleared, Answered, Answered2}
-use Rattle.tables.proofs.Entering.{part_long, long_a, long_b}
+use Rattle.tables.proofs.Entering.{short_kept, part_long, long_a, long_b}
 use Rattle.lending.specs.Lending.{Untouched}
 
--- `done` and `done2` of Entering are over the areas at hand; here both are long, and the part that is lent of each is
+-- where neither area is short, the part that is lent of each is long
 module _ (a b : List ℕ) (h : areas_short a b ≡ false) where
   pub lent_a : (p : List ℕ) → p ≡ take 16384 a → 16384 ≤ length p
   lent_a p q = rw q (part_long a (long_a a b _ refl h))
@@ -32,7 +32,7 @@ module _ (o : Outcome) (out a b : List ℕ) (r : Result ℕ Refusal) (out' a' b'
     unfolding in_areas area_after
     entered =
         by_bool (areas_short a b)
-        (λ h. let u = short h in record { answer = rw (h, u.0); result = rw h u.1.result; area_a = rw h u.1.area_a; area_b = rw h u.1.area_b })
+        (λ h. let u = short h in rw (u.0, u.1.result, u.1.area_a, u.1.area_b) (short_kept a b _ refl h o out))
         (λ h. record { answer = rw h (gives h).answer; result = rw h (gives h).result; area_a = rw h (clear h).area_a; area_b = rw h (clear h).area_b })
 
   module _ (s s' : List ℕ) (short : areas_short a b ≡ true → (r ≡ Err refusal.Areas) × Untouched out s a b out' s' a' b')

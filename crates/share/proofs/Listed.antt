@@ -1,4 +1,4 @@
--- What `load_image` answered, and the listing of what it loaded.
+-- What `load` answered, and the listing of what it loaded.
 use mathlib.Core.Path.{◌≡◌, refl}
 use mathlib.Core.List.{List, []}
 use Prim.Native.Nat.{ℕ}
