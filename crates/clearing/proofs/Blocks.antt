@@ -1,38 +1,70 @@
--- Blocks by their places, as a loop over an index meets them: docs/PROVING.md cites these laws for a loop's exit and for its next turn.
-use mathlib.Core.Path.{◌≡◌, ap, sym, ◌∙◌}
-use Prim.Native.Nat.{ℕ, zero, suc, ◌+◌, ◌*◌, ◌≤◌, ◌<◌}
+-- The words of a block by their places: those passed joined, and those passed set to zero.
+use mathlib.Core.Path.{◌≡◌, refl, sym, ap, ◌∙◌}
+use Prim.Native.Nat.{ℕ, zero, suc, ◌+◌, ◌-◌, ◌≤◌, ◌<◌}
 use native.Mathlib.Omega.{arith}
 use native.Mathlib.Nat.{le_antisymm}
-use mathlib.Core.List.{List, ◌++◌}
-use lib.ListN.{length, set, drop, replicate}
+use native.Mathlib.Numerals.{add-one}
+use mathlib.Core.List.{List, [], ◌∷◌, ◌++◌, append-nil}
+use lib.ListN.{length, take, drop, get_or, set, replicate, length-drop, drop_of_length-le}
+use lib.Seq.{take-suc, take_all, length-take-le}
+use lib.Bits.{bit_or}
 use borrow.Author.Fill.{fill_more}
+use borrow.Rule.Slice.PartMut.{put_mid}
+use Rattle.std.specs.List.{fold}
+use Rattle.std.proofs.lemmas.List.{take-append-drop, set-append_right}
+use Rattle.std.proofs.lemmas.List.Sums.{fold-append}
 use Rattle.clearing.specs.Blocks.{joined, zeroed}
-use Rattle.clearing.proofs.Zeros.{Fronts}
+
+-- ---- joined
 
 pub record Joined (l : List ℕ) (from x j : ℕ) : Type 0 where
   pub few : j ≤ 128
   pub is : x ≡ joined l from j
 
 module _ (l : List ℕ) (from : ℕ) where
+  pub joined_none : Joined l from 0 0
+  unfolding joined
+  joined_none = record { few = omega arith; is = refl }
+
+  pub joined_more : (x j : ℕ) → Joined l from x j → j < 128 → Joined l from (bit_or x (get_or l (from + j) 0)) (j + 1)
+  unfolding joined
+  joined_more x j h b = record { few = omega arith; is = rw add-one (ap (λ y. bit_or y (get_or l (from + j) 0)) h.is) }
+
   pub joined_all : (x j : ℕ) → Joined l from x j → 128 ≤ j → x ≡ joined l from 128
   joined_all x j h b = h.is ∙ ap (joined l from) (le_antisymm h.few b)
 
--- the first i words zero, and n more
-zeroed_front : (d : List ℕ) (i n : ℕ) → i + n ≤ length d → zeroed (replicate i 0 ++ drop i d) i n ≡ replicate (i + n) 0 ++ drop (i + n) d
-unfolding zeroed
-zeroed_front d i zero h = let z : i + 0 ≡ i = omega arith in rw z
-zeroed_front d i (suc n) h =
-    let z : i + suc n ≡ i + n + 1 = omega arith in
-    ap (λ (m : List ℕ). set m (i + n) 0) (zeroed_front d i n (omega arith))
-    ∙ fill_more (i + n) 0 d (omega arith)
-    ∙ ap (λ m. replicate m 0 ++ drop m d) (sym z)
+-- the first j words, joined by fold
+joined_front : (l : List ℕ) (j : ℕ) → j ≤ length l → j ≤ 128 → Joined l 0 (fold bit_or 0 (take j l)) j
+joined_front l zero h b = joined_none l 0
+joined_front l (suc j) h b =
+    let z : 0 + j ≡ j = omega arith in
+    let w : ℕ = get_or l (0 + j) 0 in
+    let t : take (suc j) l ≡ take j l ++ (w ∷ []) = rw z (take-suc l j 0 (omega arith)) in
+    rw (t, fold-append bit_or 0 (take j l) (w ∷ []), ← add-one) (joined_more l 0 (fold bit_or 0 (take j l)) j (joined_front l j (omega arith) (omega arith)) (omega arith))
 
-module _ (d : List ℕ) (h : 16384 ≤ length d) (l : List ℕ) (k : ℕ) (p : Fronts d l k) where
-  pub fronts_more : (m : List ℕ) → k < 128 → m ≡ zeroed l (128 * k) 128 → length m ≡ length l → Fronts d m (k + 1)
-  fronts_more m b e s =
-      let z : 128 * k + 128 ≡ 128 * (k + 1) = omega arith in
-      record {
-        few = omega arith;
-        long = s ∙ p.long;
-        is = e ∙ ap (λ (u : List ℕ). zeroed u (128 * k) 128) p.is ∙ zeroed_front d (128 * k) 128 (omega arith) ∙ ap (λ i. replicate i 0 ++ drop i d) z;
-      }
+pub joined_words : (l : List ℕ) (x : ℕ) → x ≡ fold bit_or 0 l → length l ≡ 128 → x ≡ joined l 0 128
+joined_words l x e h =
+    e
+    ∙ ap (fold bit_or 0) (sym (take_all (length l) l (omega arith)))
+    ∙ joined_all l 0 (fold bit_or 0 (take (length l) l)) (length l) (joined_front l (length l) (omega arith) (omega arith)) (omega arith)
+
+-- ---- set to zero
+
+-- n words from i on
+pub zeroed_put : (l : List ℕ) (i n : ℕ) → i + n ≤ length l → zeroed l i n ≡ put_mid i n l (replicate n 0)
+unfolding zeroed
+zeroed_put l i zero h = sym (take-append-drop i l)
+zeroed_put l i (suc n) h =
+    let z : i + n - i ≡ n = omega arith in
+    let q : List ℕ = drop i l in
+    let f : n < length q = rw length-drop (omega arith) in
+    ap (λ (m : List ℕ). set m (i + n) 0) (zeroed_put l i n (omega arith))
+    ∙ set-append_right (take i l) (replicate n 0 ++ drop n q) i (i + n) 0 (length-take-le i l (omega arith)) (omega arith)
+    ∙ rw z (ap (λ (m : List ℕ). take i l ++ m) (rw add-one at (fill_more n 0 q f)))
+
+-- all words of a block
+pub zeroed_all : (l m : List ℕ) → m ≡ replicate (length l) 0 → length l ≡ 128 → m ≡ zeroed l 0 128
+zeroed_all l m e h =
+    let g : length l ≤ 128 = omega arith in
+    let f : drop 128 l ≡ [] = drop_of_length-le l g in
+    e ∙ ap (λ (n : ℕ). replicate n 0) h ∙ sym (zeroed_put l 0 128 (omega arith) ∙ rw f (append-nil (replicate 128 0)))

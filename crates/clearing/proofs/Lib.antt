@@ -1,2 +1,2 @@
-pub mod Zeros
 pub mod Blocks
+pub mod Zeros

@@ -5,16 +5,19 @@
 ghost use Rattle.std.specs.Prelude.{◌≡◌, ◌≤◌, length, fold, replicate};
 ghost use Rattle.std.specs.Int.Bits.{bit_or};
 ghost use Rattle.model.specs.Answers.{cleared};
+ghost use Rattle.clearing.specs.Blocks.{joined, zeroed};
 
 // The words of a block, joined bit by bit: zero where all of them are.
 fn joined(block: &[u32]) -> u32
-    ensures { result ≡ fold bit_or 0 block.now }
+    ensures whole { result ≡ fold bit_or 0 block.now }
+    ensures words { length block.now ≡ 128 → result ≡ joined block.now 0 128 }
 {
     block.iter().fold(0, |x, w| x | w)
 }
 
 fn clear_block(block: &mut [u32])
-    ensures { block.new ≡ replicate (length block.old) 0 }
+    ensures whole { block.new ≡ replicate (length block.old) 0 }
+    ensures words { length block.old ≡ 128 → block.new ≡ zeroed block.old 0 128 }
 {
     if joined(block) == 0 {
         return;
