@@ -7,7 +7,8 @@
 --   Valid, is_topo_sorted    what an image's network is when the numbers 2 to 6, and 7, are not met
 --   run_from_zero N is       the outputs of every cycle, the flip-flops starting at zero; `is` has the inputs of each cycle, as many
 --                            cycles as one likes. `run N st is` starts from the states st
---   Kept, Kept2              the contract of every entry: its answer r, and the slices at exit (primed) from those at entry
+--   Kept, Kept2              the contract of every entry: its answer as document 01 counts it (r, which is `numbered result` in the
+--                            contract), and the slices at exit (primed) from those at entry
 -- and in crates/meaning/proofs/PromisedMappings:
 --   signal_in N st is i s    the value of signal s in the cycle with inputs i, after cycles with inputs `is` from the states st
 --   node_in N st is i n      the value of node n in that cycle
