@@ -1,6 +1,6 @@
--- The laws of remap as the code meets them: a gate's inputs, a gate, the gates of the order.
+-- The laws of remap as the code meets them: a gate's inputs, a gate, the gates of the order, the outputs.
 use Prim.Native.Nat.{ℕ, zero, suc, ◌+◌, ◌*◌, ◌^◌, ◌≤◌, ◌<◌}
-use mathlib.Core.Path.{◌≡◌, refl, sym, ap, ap₂, subst, ◌∙◌}
+use mathlib.Core.Path.{◌≡◌, refl, sym, ap, ap₂, fun_ext, subst, ◌∙◌}
 use mathlib.Core.Bool.{true}
 use mathlib.Core.List.{List, [], ◌∷◌, ◌++◌}
 use native.Mathlib.Nat.{le_antisymm}
@@ -15,14 +15,13 @@ use Rattle.laws.proofs.Tabs.{map_tab}
 use Rattle.model.specs.Signal.{is_var, remap_order}
 use Rattle.model.specs.Gate.{Gate, remap_gate}
 use Rattle.shape.proofs.Wires.{var_low}
-use Rattle.tables.specs.Layout.{net_size, span, kind_at, first_at, count_at, input_at, ins_at, low_at, high_at, gate_at, put_input, put_gate, put_table, cell, tr_base, order_base}
-use Rattle.tables.specs.Building.{put_inputs, put_node}
+use Rattle.tables.specs.Layout.{net_size, span, kind_at, first_at, count_at, input_at, ins_at, low_at, high_at, output_at, gate_at, put_input, put_gate, put_table, put_output, cell, tr_base, order_base}
+use Rattle.tables.specs.Building.{put_inputs, put_node, put_outputs}
 use Rattle.tables.specs.declared.counts.Counts.{Counts}
 use Rattle.shape.proofs.Written.{gate_eq}
-use Rattle.tables.proofs.Building.{put_inputs_next, cell_put_inputs, length_put_node, cell_put_node, nodes_of_none, nodes_of_put_node, packed_none, packed_put_node}
-use Rattle.translation.specs.Tables.{tr_of}
-use Rattle.translation.proofs.Translated.{tr_of_same}
-use Rattle.remap.specs.Remapping.{inputs_by, Copying, Placing, Put, inputs_of, Mapping, gate_by, Moving, Mapped}
+use Rattle.tables.proofs.Building.{put_inputs_next, cell_put_inputs, length_put_node, cell_put_node, nodes_of_none, nodes_of_put_node, packed_none, packed_put_node, put_outputs_next, cell_put_outputs}
+use Rattle.translation.specs.Tables.{outputs_by}
+use Rattle.remap.specs.Remapping.{inputs_by, Copying, Placing, Put, inputs_of, Mapping, gate_by, Moving, Mapped, OutMapping}
 
 -- ---- one signal
 
@@ -35,9 +34,9 @@ pub copy_none : (l : List ℕ) (at : ℕ) (f : ℕ → ℕ) → l ≡ put_inputs
 unfolding put_inputs
 copy_none l at f = refl
 
-module _ (from l : List ℕ) (f at n : ℕ) (C : Copying from l f at n) (e : List ℕ) (j : ℕ) (I : (j ≤ n) × (length e ≡ length l) × (e ≡ put_inputs l at (inputs_by from (tr_of l) f) j)) where
-  pub copy_done : n ≤ j → e ≡ put_inputs l at (inputs_by from (tr_of l) f) n
-  copy_done h = I.2 ∙ ap (put_inputs l at (inputs_by from (tr_of l) f)) (le_antisymm I.0 h)
+module _ (from l : List ℕ) (f at n : ℕ) (C : Copying from l f at n) (e : List ℕ) (j : ℕ) (I : (j ≤ n) × (length e ≡ length l) × (e ≡ put_inputs l at (inputs_by from (cell l tr_base) f) j)) where
+  pub copy_done : n ≤ j → e ≡ put_inputs l at (inputs_by from (cell l tr_base) f) n
+  copy_done h = I.2 ∙ ap (put_inputs l at (inputs_by from (cell l tr_base) f)) (le_antisymm I.0 h)
 
   module _ (h : j < n) where
     pub copy_read : Fits w64 (f + j)
@@ -55,18 +54,18 @@ module _ (from l : List ℕ) (f at n : ℕ) (C : Copying from l f at n) (e : Lis
     pub copy_place : (at + j < 2048) × (net_size ≤ length e)
     copy_place = (omega (arith, C.into), omega (arith, copy_turn))
 
-    pub copy_next : (s x : ℕ) (e' : List ℕ) → s ≡ input_at from (f + j) → x ≡ remap_order (tr_of e) s → length e' ≡ length e → e' ≡ put_input e (at + j) x
-        → (j + 1 ≤ n) × (length e' ≡ length l) × (e' ≡ put_inputs l at (inputs_by from (tr_of l) f) (j + 1))
+    pub copy_next : (s x : ℕ) (e' : List ℕ) → s ≡ input_at from (f + j) → x ≡ remap_order (cell e tr_base) s → length e' ≡ length e → e' ≡ put_input e (at + j) x
+        → (j + 1 ≤ n) × (length e' ≡ length l) × (e' ≡ put_inputs l at (inputs_by from (cell l tr_base) f) (j + 1))
     unfolding inputs_by
     copy_next s x e' y z k w =
         let into = C.into in
         let q = I.2 in
-        let same : tr_of e ≡ tr_of l = tr_of_same e l copy_turn C.room (λ v p.
-        ap (λ (a : List ℕ). cell a tr_base v) q ∙ cell_put_inputs l at (inputs_by from (tr_of l) f) j tr_base v (omega arith) (omega arith)) in
-        let x-is : x ≡ remap_order (tr_of l) (input_at from (f + j)) = z ∙ ap₂ remap_order same y in (
+        let same : cell e tr_base ≡ cell l tr_base = fun_ext (λ v.
+        ap (λ (a : List ℕ). cell a tr_base v) q ∙ cell_put_inputs l at (inputs_by from (cell l tr_base) f) j tr_base v (omega arith) (omega arith)) in
+        let x-is : x ≡ remap_order (cell l tr_base) (input_at from (f + j)) = z ∙ ap₂ remap_order same y in (
           omega arith,
           k ∙ I.1,
-          rw (add-one j) (w ∙ ap (λ (a : List ℕ). put_input a (at + j) x) q ∙ put_inputs_next l at (inputs_by from (tr_of l) f) j x x-is),
+          rw (add-one j) (w ∙ ap (λ (a : List ℕ). put_input a (at + j) x) q ∙ put_inputs_next l at (inputs_by from (cell l tr_base) f) j x x-is),
         )
 
 -- ---- a gate
@@ -99,7 +98,7 @@ module _ (from l : List ℕ) (c : Counts) (v k at : ℕ) (P : Placing from l c v
     place_sum = record { fits = omega (arith, P.into) }
 
     module _ (f kind lo hi : ℕ) (p : f ≡ first_at from v) (x : kind ≡ kind_at from v) (y : lo ≡ low_at from v) (z : hi ≡ high_at from v) where
-      pub place_done : (l1 l2 l3 : List ℕ) → l1 ≡ put_inputs l at (inputs_by from (tr_of l) f) n → l2 ≡ put_gate l1 k kind at n → l3 ≡ put_table l2 k lo hi
+      pub place_done : (l1 l2 l3 : List ℕ) → l1 ≡ put_inputs l at (inputs_by from (cell l tr_base) f) n → l2 ≡ put_gate l1 k kind at n → l3 ≡ put_table l2 k lo hi
           → Put from l l3 v k at (at + n)
       unfolding put_node
       place_done l1 l2 l3 a b d = record { words = d ∙ rw (b, a, p, q, x, y, z); next = rw q }
@@ -154,10 +153,10 @@ module _ (from l : List ℕ) (c : Counts) (m : ℕ) (M : Mapping from l c m) (e 
     move_next e' r P =
         let few = M.few in
         let low : k < 512 = omega arith in
-        let f : ℕ → ℕ = inputs_by from (tr_of e) (first_at from v) in
-        let t-is : tr_of e ≡ tr_of l = tr_of_same e l K.room M.room (λ j p. K.tables tr_base j (omega arith)) in
-        let gate : record { kind = kind_at from v; ins = tab f (count_at from v); table = low_at from v + 2 ^ 32 * high_at from v } ≡ remap_gate (tr_of l) (gate_at from (cell l order_base k)) =
-        gate_moved from (tr_of e) v ∙ ap₂ (λ (t : ℕ → ℕ) (x : ℕ). remap_gate t (gate_at from x)) t-is v_is in
+        let f : ℕ → ℕ = inputs_by from (cell e tr_base) (first_at from v) in
+        let t-is : cell e tr_base ≡ cell l tr_base = fun_ext (λ j. K.tables tr_base j (omega arith)) in
+        let gate : record { kind = kind_at from v; ins = tab f (count_at from v); table = low_at from v + 2 ^ 32 * high_at from v } ≡ remap_gate (cell l tr_base) (gate_at from (cell l order_base k)) =
+        gate_moved from (cell e tr_base) v ∙ ap₂ (λ (t : ℕ → ℕ) (x : ℕ). remap_gate t (gate_at from x)) t-is v_is in
         let len = length_put_node e k (kind_at from v) at f (count_at from v) (low_at from v) (high_at from v) in
         let room = K.room in
         rw (add-one k)
@@ -176,3 +175,37 @@ move_done from l e m k at K a b =
     let z : k ≡ m = omega arith in
     let f : at ≡ inputs_of from l m = K.free ∙ ap (inputs_of from l) z in
     record { moved = subst (λ (x : ℕ). Moving from l e m x) f (subst (λ (x : ℕ). Moving from l e x at) z K) }
+
+-- ---- the outputs
+
+pub out_none : (l : List ℕ) (f : ℕ → ℕ) → l ≡ put_outputs l f 0
+unfolding put_outputs
+out_none l f = refl
+
+module _ (from l : List ℕ) (o : ℕ) (O : OutMapping from l o) (e : List ℕ) (j : ℕ) (I : (j ≤ o) × (length e ≡ length l) × (e ≡ put_outputs l (outputs_by from (cell l tr_base)) j)) where
+  pub out_done : o ≤ j → e ≡ put_outputs l (outputs_by from (cell l tr_base)) o
+  out_done h = I.2 ∙ ap (put_outputs l (outputs_by from (cell l tr_base))) (le_antisymm I.0 h)
+
+  module _ (h : j < o) where
+    pub out_read : (j < 64) × (net_size ≤ length from)
+    out_read = (omega (arith, O.few), O.long)
+
+    pub out_turn : span ≤ length e
+    out_turn = rw I.1 O.room
+
+    pub out_place : (j < 64) × (net_size ≤ length e)
+    out_place = (omega (arith, O.few), omega (arith, out_turn))
+
+    pub out_next : (s x : ℕ) (e' : List ℕ) → s ≡ output_at from j → x ≡ remap_order (cell e tr_base) s → length e' ≡ length e → e' ≡ put_output e j x
+        → (j + 1 ≤ o) × (length e' ≡ length l) × (e' ≡ put_outputs l (outputs_by from (cell l tr_base)) (j + 1))
+    unfolding outputs_by
+    out_next s x e' y z k w =
+        let few = O.few in
+        let q = I.2 in
+        let same : cell e tr_base ≡ cell l tr_base = fun_ext (λ v.
+        ap (λ (a : List ℕ). cell a tr_base v) q ∙ cell_put_outputs l (outputs_by from (cell l tr_base)) j tr_base v (omega arith) (omega arith)) in
+        let x-is : x ≡ remap_order (cell l tr_base) (output_at from j) = z ∙ ap₂ remap_order same y in (
+          omega arith,
+          k ∙ I.1,
+          rw (add-one j) (w ∙ ap (λ (a : List ℕ). put_output a j x) q ∙ put_outputs_next l (outputs_by from (cell l tr_base)) j x x-is),
+        )

@@ -2,7 +2,6 @@
 use Prim.Native.Nat.{ℕ, zero, suc, ◌+◌, ◌≤◌, ◌<◌}
 use mathlib.Core.Path.{◌≡◌, refl, sym, ap, ap₂, fun_ext, ◌∙◌}
 use mathlib.Core.List.{List, [], ◌∷◌, ◌++◌, map}
-use lib.ListN.{length}
 use native.Mathlib.Omega.{arith}
 use Rattle.laws.specs.Lists.{All, tab}
 use Rattle.laws.proofs.Lists.{all_at, all_of}
@@ -15,7 +14,7 @@ use Rattle.shape.specs.Forms.{Below}
 use Rattle.shape.proofs.Sums.{sum_over, sum_distinct}
 use Rattle.shape.proofs.Wires.{remap_same}
 use Rattle.shape.proofs.Remap.{order_length, remap_valid}
-use Rattle.tables.specs.Layout.{net_size, span, first_at, count_at, input_at, ins_at, output_at, gate_at, nodes_of, outputs_of, net_of, cell, tr_base, order_base}
+use Rattle.tables.specs.Layout.{first_at, count_at, input_at, ins_at, output_at, gate_at, nodes_of, outputs_of, net_of, cell, tr_base, order_base}
 use Rattle.tables.specs.Building.{put_outputs}
 use Rattle.tables.specs.Holding.{network_of}
 use Rattle.tables.specs.declared.counts.Counts.{Counts}
@@ -23,9 +22,8 @@ use Rattle.shape.proofs.Written.{gate_eq}
 use Rattle.tables.proofs.Building.{length_put_outputs, cell_put_outputs, nodes_of_put_outputs, packed_put_outputs, outputs_of_put_outputs}
 use Rattle.tables.proofs.Holding.{size_network, gate_network, holds}
 use Rattle.remap.specs.Tables.{order_from}
-use Rattle.translation.specs.Tables.{tr_of, outputs_by}
-use Rattle.translation.proofs.Translated.{tr_of_cell, tr_of_same}
-use Rattle.remap.specs.Remapping.{inputs_of, Mapping, gate_by, Mapped, Numbering, Numbered, with_nodes, Orders, Remapped}
+use Rattle.translation.specs.Tables.{outputs_by}
+use Rattle.remap.specs.Remapping.{inputs_of, Mapping, gate_by, Mapped, OutMapping, Numbering, Numbered, with_nodes, Orders, Remapped}
 use Rattle.remap.proofs.Tabled.{length_order_from, order_from_tab}
 
 -- translations that agree below n
@@ -85,21 +83,22 @@ module _ (from l : List ℕ) (c : Counts) (m : ℕ) (O : Orders from l c m) wher
     }
 
     module _ (e : List ℕ) (E : Mapped from d e m) where
-      pub whole_outs : (net_size ≤ length from) × (span ≤ length e) × (c.outs ≤ 64)
-      whole_outs = (O.ok.long, E.moved.room, O.ok.outs_few)
+      pub whole_outs : (o : ℕ) → o ≡ c.outs → OutMapping from e o
+      whole_outs o q = record {
+        long = O.ok.long;
+        room = E.moved.room;
+        few = rw q O.ok.outs_few;
+      }
 
-      module _ (g : List ℕ) (p : g ≡ put_outputs e (outputs_by from (tr_of e)) c.outs) where
+      module _ (g : List ℕ) (p : g ≡ put_outputs e (outputs_by from (cell e tr_base)) c.outs) where
         τ : ℕ → ℕ
         τ = translation (size (network_of from c)) (order_from l 0 m)
 
         agree : (v : ℕ) → v < c.nodes → cell d tr_base v ≡ translation (size (network_of from c)) (order_from l 0 m) v
         agree v h = D.numbers.map v (rw en h) ∙ ap (λ (x : ℕ). translation x (order_from l 0 m) v) (en ∙ sym (size_network from c))
 
-        d_map : (v : ℕ) → v < c.nodes → tr_of d v ≡ translation (size (network_of from c)) (order_from l 0 m) v
-        d_map v h = tr_of_cell d D.numbers.room v (let n = O.ok.few in omega arith) ∙ agree v h
-
-        e_map : tr_of e ≡ tr_of d
-        e_map = tr_of_same e d E.moved.room D.numbers.room (λ j q. E.moved.tables tr_base j (omega arith))
+        e_map : cell e tr_base ≡ cell d tr_base
+        e_map = fun_ext (λ j. E.moved.tables tr_base j (omega arith))
 
         ins_below : (v : ℕ) → v < c.nodes → All (Below c.nodes) (gate_at from v).ins
         unfolding gate_at ins_at
@@ -113,13 +112,13 @@ module _ (from l : List ℕ) (c : Counts) (m : ℕ) (O : Orders from l c m) wher
         gates k h =
             let low = order_at k h in
             rw (gate_network from c (cell l order_base k) low, D.numbers.order k)
-            (gate_eq refl (map_same (tr_of d) (translation (size (network_of from c)) (order_from l 0 m)) c.nodes (gate_at from (cell l order_base k)).ins (ins_below (cell l order_base k) low) d_map) refl)
+            (gate_eq refl (map_same (cell d tr_base) (translation (size (network_of from c)) (order_from l 0 m)) c.nodes (gate_at from (cell l order_base k)).ins (ins_below (cell l order_base k) low) agree) refl)
 
         nodes_is : nodes_of g m ≡ (remap (order_from l 0 m) (network_of from c)).nodes
         unfolding remap
         nodes_is =
             ap (λ (x : List ℕ). nodes_of x m) p
-            ∙ nodes_of_put_outputs e (outputs_by from (tr_of e)) m (inputs_of from d m) E.moved.packed c.outs
+            ∙ nodes_of_put_outputs e (outputs_by from (cell e tr_base)) m (inputs_of from d m) E.moved.packed c.outs
             ∙ E.moved.nodes
             ∙ tab_ext (gate_by from d) (λ k. remap_gate (translation (size (network_of from c)) (order_from l 0 m)) (model.gate_at (network_of from c) (cell l order_base k))) m gates
             ∙ sym (map_tab (λ v. remap_gate (translation (size (network_of from c)) (order_from l 0 m)) (model.gate_at (network_of from c) v)) (cell l order_base) m)
@@ -130,9 +129,9 @@ module _ (from l : List ℕ) (c : Counts) (m : ℕ) (O : Orders from l c m) wher
         outs_is =
             let r = E.moved.room in
             ap (λ (x : List ℕ). outputs_of x c.outs) p
-            ∙ outputs_of_put_outputs e (outputs_by from (tr_of e)) c.outs O.ok.outs_few (omega arith)
-            ∙ tab_ext (outputs_by from (tr_of e)) (λ j. remap_order (translation (size (network_of from c)) (order_from l 0 m)) (output_at from j)) c.outs
-            (λ j h. ap (λ (t : ℕ → ℕ). remap_order t (output_at from j)) e_map ∙ remap_same (tr_of d) (translation (size (network_of from c)) (order_from l 0 m)) c.nodes (output_at from j) (O.ok.outs_named j h) d_map)
+            ∙ outputs_of_put_outputs e (outputs_by from (cell e tr_base)) c.outs O.ok.outs_few (omega arith)
+            ∙ tab_ext (outputs_by from (cell e tr_base)) (λ j. remap_order (translation (size (network_of from c)) (order_from l 0 m)) (output_at from j)) c.outs
+            (λ j h. ap (λ (t : ℕ → ℕ). remap_order t (output_at from j)) e_map ∙ remap_same (cell d tr_base) (translation (size (network_of from c)) (order_from l 0 m)) c.nodes (output_at from j) (O.ok.outs_named j h) agree)
             ∙ sym (map_tab (remap_order (translation (size (network_of from c)) (order_from l 0 m))) (output_at from) c.outs)
 
         inputs_is : c.inputs ≡ (remap (order_from l 0 m) (network_of from c)).inputs
@@ -141,14 +140,14 @@ module _ (from l : List ℕ) (c : Counts) (m : ℕ) (O : Orders from l c m) wher
 
         pub whole_done : Remapped from l g c m
         whole_done = record {
-          room = rw p (let r = E.moved.room in omega (arith, length_put_outputs e (outputs_by from (tr_of e)) c.outs));
+          room = rw p (let r = E.moved.room in omega (arith, length_put_outputs e (outputs_by from (cell e tr_base)) c.outs));
           holds =
               holds g (with_nodes c m) (remap (order_from l 0 m) (network_of from c)) (inputs_of from d m)
-              (rw p (packed_put_outputs e (outputs_by from (tr_of e)) m (inputs_of from d m) E.moved.packed c.outs))
+              (rw p (packed_put_outputs e (outputs_by from (cell e tr_base)) m (inputs_of from d m) E.moved.packed c.outs))
               (remap_valid (network_of from c) (order_from l 0 m) O.order O.ok.held.valid) inputs_is nodes_is outs_is;
           map = λ v h.
-              rw p (cell_put_outputs e (outputs_by from (tr_of e)) c.outs tr_base v O.ok.outs_few (omega arith))
+              rw p (cell_put_outputs e (outputs_by from (cell e tr_base)) c.outs tr_base v O.ok.outs_few (omega arith))
               ∙ E.moved.tables tr_base v (omega arith) ∙ agree v h;
         }
 
-pub ruleset whole = (whole_numbering, whole_mapping, whole_done)
+pub ruleset whole = (whole_numbering, whole_mapping, whole_outs, whole_done)

@@ -9,7 +9,6 @@ use Rattle.tables.specs.Layout.{net_size, span, kind_at, first_at, count_at, inp
 use Rattle.tables.specs.Building.{put_node, Packed}
 use Rattle.tables.specs.Holding.{network_of, Holds}
 use Rattle.tables.specs.declared.counts.Counts.{Counts}
-use Rattle.translation.specs.Tables.{tr_of}
 use Rattle.remap.specs.Tables.{Sound, order_from}
 
 -- the input words of `from` from f on, put through the mapping t
@@ -32,7 +31,7 @@ pub record Placing (from l : List ℕ) (c : Counts) (v k at : ℕ) : Type 0 wher
   pub into : at + count_at from v ≤ 2048
 
 pub record Put (from l e : List ℕ) (v k at r : ℕ) : Type 0 where
-  pub words : e ≡ put_node l k (kind_at from v) at (inputs_by from (tr_of l) (first_at from v)) (count_at from v) (low_at from v) (high_at from v)
+  pub words : e ≡ put_node l k (kind_at from v) at (inputs_by from (cell l tr_base) (first_at from v)) (count_at from v) (low_at from v) (high_at from v)
   pub next : r ≡ at + count_at from v
 
 -- ---- the m nodes of the order in l
@@ -50,7 +49,7 @@ pub record Mapping (from l : List ℕ) (c : Counts) (m : ℕ) : Type 0 where
 
 -- the kth gate of the order, put through the mapping in l
 unfoldable pub gate_by : List ℕ → List ℕ → ℕ → Gate
-gate_by from l k = remap_gate (tr_of l) (gate_at from (cell l order_base k))
+gate_by from l k = remap_gate (cell l tr_base) (gate_at from (cell l order_base k))
 
 -- k of them stand in e, their inputs below `at`; behind its network e is l
 pub record Moving (from l e : List ℕ) (k at : ℕ) : Type 0 where
@@ -62,6 +61,11 @@ pub record Moving (from l e : List ℕ) (k at : ℕ) : Type 0 where
 
 pub record Mapped (from l e : List ℕ) (m : ℕ) : Type 0 where
   pub moved : Moving from l e m (inputs_of from l m)
+
+pub record OutMapping (from l : List ℕ) (o : ℕ) : Type 0 where
+  pub long : net_size ≤ length from
+  pub room : span ≤ length l
+  pub few : o ≤ 64
 
 -- ---- the mapping of n old nodes
 

@@ -5,22 +5,23 @@
 ghost use Rattle.std.specs.Prelude.{◌≡◌, ◌≤◌, length};
 ghost use Rattle.model.specs.Signal.{remap_order};
 ghost use Rattle.tables.specs.Layout.{span, cell, tr_base};
-ghost use Rattle.tables.specs.Building.{put_inputs};
-ghost use Rattle.translation.specs.Tables.{tr_of};
-ghost use Rattle.remap.specs.Remapping.{inputs_by, Copying, Placing, Put, Mapping, Mapped, Numbering, Numbered, Orders, Remapped};
+ghost use Rattle.tables.specs.Building.{put_inputs, put_outputs};
+ghost use Rattle.translation.specs.Tables.{outputs_by};
+ghost use Rattle.remap.specs.Remapping.{inputs_by, Copying, Placing, Put, Mapping, Mapped, OutMapping, Numbering, Numbered, Orders, Remapped};
 
 use signal::Signal;
 use tables::counts::Counts;
 use tables::layout::{
-    count_at, first_at, high_at, input_at, kind_at, low_at, put_gate, put_input, put_table,
+    count_at, first_at, high_at, input_at, kind_at, low_at, output_at, put_gate, put_input,
+    put_output, put_table,
 };
 use tables::scratch::{ORDER, TR, number, put_word};
-use translation::{clear_table, remap_outputs};
+use translation::clear_table;
 
 pub mod nodes;
 
-// A signal through the mapping and the words behind it.
-// stays: `translation::translate` ends at the table's 512 words, and this promise, which does not, may not change.
+// A signal through the mapping, and through the words behind it for a node past its 512.
+// stays beside `translation::translate`, which maps such a node to zero.
 pub fn translate(to: &[u32], s: u32) -> u32
     requires { span ≤ length to.now }
     ensures { result ≡ remap_order (cell to.now tr_base) s }
@@ -30,10 +31,10 @@ pub fn translate(to: &[u32], s: u32) -> u32
 
 fn copy_inputs(from: &[u32], to: &mut [u32], f: usize, at: usize, n: usize)
     requires { Copying from.now to.old f at n }
-    ensures { to.new ≡ put_inputs to.old at (inputs_by from.now (tr_of to.old) f) n }
+    ensures { to.new ≡ put_inputs to.old at (inputs_by from.now (cell to.old tr_base) f) n }
 {
     for j in 0..n {
-        let s = translation::translate(to, input_at(from, f + j));
+        let s = translate(to, input_at(from, f + j));
         put_input(to, at + j, s);
     }
 }
@@ -59,6 +60,18 @@ fn remap_nodes(from: &[u32], to: &mut [u32], c: Counts, m: usize)
     for k in 0..m {
         let v = number(to, ORDER, k);
         at = remap_gate(from, to, c, v, k, at);
+    }
+}
+
+// The first o outputs, translated.
+// stays beside `translation::remap_outputs`, as `translate` does beside its own.
+fn remap_outputs(from: &[u32], to: &mut [u32], o: usize)
+    requires { OutMapping from.now to.old o }
+    ensures { to.new ≡ put_outputs to.old (outputs_by from.now (cell to.old tr_base)) o }
+{
+    for j in 0..o {
+        let s = translate(to, output_at(from, j));
+        put_output(to, j, s);
     }
 }
 

@@ -9,5 +9,8 @@ number_nodes-requires c = search (rules, whole)
 pub remap_nodes-requires : goal.remap_nodes-requires
 remap_nodes-requires c = search (rules, whole)
 
+pub remap_outputs-requires : goal.remap_outputs-requires
+remap_outputs-requires c = search (rules, whole)
+
 pub returns : goal.returns
 returns c = search (rules, whole)
