@@ -2,27 +2,26 @@
 #![tactic(auto)]
 
 ghost use Rattle.std.specs.Prelude.{◌≡◌};
-ghost use Rattle.refusals.specs.Numbers.{numbered};
-ghost use Rattle.answers.specs.Numbers.{number_of, length_of};
+ghost use Rattle.answers.specs.Numbers.{IsNumberOf, length_of};
 
 use refusals::Refusal;
 
 // Accepted, with the length in bytes of the image that was written, 0 where none is; or refused.
 pub type Answer = Result<usize, Refusal>;
 
-// Document 01's number: 0 for acceptance.
-pub fn number(a: Answer) -> u32
-    ensures { result ≡ number_of (numbered a) }
+// Document 01's number: 0 for acceptance. A refusal is one of document 01's, or what else has a number.
+pub fn number<E: Into<u32>>(a: Result<usize, E>) -> u32
+    ensures { IsNumberOf E.converts a result }
 {
     match a {
         Ok(_) => 0,
-        Err(e) => u32::from(e),
+        Err(e) => e.into(),
     }
 }
 
 // The length that goes with it: 0 for a refusal.
-pub fn length(a: Answer) -> usize
-    ensures { result ≡ length_of (numbered a) }
+pub fn length<E: Drop>(a: Result<usize, E>) -> usize
+    ensures { result ≡ length_of a }
 {
     a.unwrap_or(0)
 }

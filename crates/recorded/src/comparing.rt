@@ -1,7 +1,9 @@
 // What an entry left, beside what is recorded: each comparison that does not hold is named on a writer.
 ghost use Rattle.std.specs.Prelude.{◌≡◌, IfOk};
+ghost use Rattle.recorded.specs.Places.{what_place};
 
 use crate::buffers::{holds, holds_words, is_left};
+use crate::place::Place;
 use crate::telling::print;
 use crate::{Field, Part, data, size, word};
 use std::io;
@@ -20,6 +22,26 @@ pub enum What {
     Second,
 }
 
+// In their order.
+const WHATS: [What; 8] = [
+    What::Number,
+    What::Length,
+    What::Start,
+    What::Result,
+    What::Mapping,
+    What::State,
+    What::First,
+    What::Second,
+];
+
+impl Place for What {
+    ghost at = { what_place };
+
+    fn place(self) -> usize {
+        self as usize
+    }
+}
+
 impl What {
     // As it is printed, all as wide as the longest and a space.
     fn name(self) -> &'static [u8] {
@@ -36,12 +58,13 @@ impl What {
     }
 }
 
-// Passes a comparison on, and names what does not hold.
-pub fn expect<W: Write>(err: &mut W, what: What, is: bool) -> io::Result<bool>
+// Passes a comparison on, and names what does not hold, by itself or by its place, which counts from 8 on as from 0.
+pub fn expect<W: Write>(err: &mut W, what: impl Place, is: bool) -> io::Result<bool>
     ensures { IfOk result (λ r. r ≡ is) }
 {
+    let k = what.place();
     if !is {
-        print(err, what.name())?;
+        print(err, WHATS[k % 8].name())?;
     }
     Ok(is)
 }
@@ -49,9 +72,9 @@ pub fn expect<W: Write>(err: &mut W, what: What, is: bool) -> io::Result<bool>
 // Whether buf has a part of the record, and the pattern behind it.
 pub fn has<W: Write>(
     err: &mut W,
-    what: What,
+    what: impl Place,
     record: &[u8],
-    wanted: Part,
+    wanted: impl Place,
     buf: &[u8],
 ) -> io::Result<bool> {
     expect(err, what, holds(buf, data(record, wanted)))
@@ -68,9 +91,9 @@ pub fn has_mapping<W: Write>(err: &mut W, record: &[u8], map: &[u32]) -> io::Res
 // Whether an area, of which as much was lent as a word of the record says, is as the entry leaves it.
 pub fn has_area<W: Write>(
     err: &mut W,
-    what: What,
+    what: impl Place,
     record: &[u8],
-    lent: Field,
+    lent: impl Place,
     area: &[u32],
 ) -> io::Result<bool> {
     expect(

@@ -4,6 +4,7 @@ ghost use Rattle.std.specs.Io.{ReadsAtMost};
 use crate::telling::{print, print_number};
 use crate::word;
 use reading::read_full;
+use std::convert::AsSlice;
 use std::fs::{File, Files};
 use std::io;
 use std::io::Write;
@@ -32,10 +33,14 @@ pub fn print_counts<W: Write>(out: &mut W, counts: Option<(u32, u32)>) -> io::Re
     print(out, b" differ\n")
 }
 
-// Reads a file; answers how many bytes it has, none where it is not there. Where a read fails, the buffer has what was read before.
-pub fn read<R: Files>(rt: &R, path: &str, file: &mut [u8]) -> io::Result<usize>
+// Reads a file; answers how many bytes it has, none where it is not there or the path is no text. Where a read fails, the buffer has what
+// was read before.
+pub fn read<R: Files>(rt: &R, path: impl AsSlice<u8> + Drop, file: &mut [u8]) -> io::Result<usize>
     ensures { ReadsAtMost result file.new }
 {
+    let Ok(path) = str::from_utf8(path.as_slice()) else {
+        return Ok(0);
+    };
     match File::open(rt, path) {
         Ok(mut opened) => read_full(&mut opened, file),
         Err(_) => Ok(0),

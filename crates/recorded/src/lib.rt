@@ -2,14 +2,17 @@
 #![tactic(auto)]
 
 ghost use Rattle.std.specs.Prelude.{◌<◌, ◌≤◌, ◌≡◌, ◌++◌, length, IfSome};
+ghost use Rattle.recorded.specs.Places.{field_place, part_place};
 
 use crate::buffers::slice;
+use crate::place::Place;
 use words::nth;
 
 pub mod buffers;
 pub mod comparing;
 pub mod hand;
 pub mod heads;
+pub mod place;
 pub mod telling;
 
 // The words of the head: what was lent, the number k or limit among it, ..
@@ -34,19 +37,27 @@ pub enum Field {
     StateAfter = 15,
 }
 
+impl Place for Field {
+    ghost at = { field_place };
+
+    fn place(self) -> usize {
+        self as usize
+    }
+}
+
 // The bytes of the head.
 pub const HEAD: usize = 64;
 
 // The parts of the data.
 #[derive(Clone, Copy, PartialEq, Eq)]
 pub enum Part {
-    Image,
-    Inputs,
-    StateBefore,
-    Result,
-    Mapping,
-    Output,
-    StateAfter,
+    Image = 0,
+    Inputs = 1,
+    StateBefore = 2,
+    Result = 3,
+    Mapping = 4,
+    Output = 5,
+    StateAfter = 6,
 }
 
 // In their order.
@@ -60,6 +71,14 @@ const PARTS: [Part; 7] = [
     Part::StateAfter,
 ];
 
+impl Place for Part {
+    ghost at = { part_place };
+
+    fn place(self) -> usize {
+        self as usize
+    }
+}
+
 // Field k, 0 past the end.
 pub fn word(record: &[u8], k: usize) -> u32 {
     if k < record.len() / 4 {
@@ -68,11 +87,11 @@ pub fn word(record: &[u8], k: usize) -> u32 {
     0
 }
 
-// A word of the head as a length.
-pub fn size(record: &[u8], w: Field) -> usize
+// A word as a length, by its field or its place; 0 past the end.
+pub fn size(record: &[u8], w: impl Place) -> usize
     ensures { result < 4294967296 }
 {
-    word(record, w as usize) as usize
+    word(record, w.place()) as usize
 }
 
 // The word of the head that has a part's length.
@@ -114,13 +133,12 @@ fn end(record: &[u8], parts: &[Part]) -> usize
     at
 }
 
-// A part of the data; empty where the record ends before it does.
-pub fn data(record: &[u8], part: Part) -> &[u8] {
-    slice(
-        record,
-        end(record, &PARTS[..part as usize]),
-        part_len(record, part),
-    )
+// A part of the data, by itself or by its place; from place 7 on what follows the parts, as long as the last. Empty where the record ends
+// before it does.
+pub fn data(record: &[u8], part: impl Place) -> &[u8] {
+    let k = part.place().min(PARTS.len());
+    let like = PARTS.get(k).copied().unwrap_or(Part::StateAfter);
+    slice(record, end(record, &PARTS[..k]), part_len(record, like))
 }
 
 // What is lent at most.
