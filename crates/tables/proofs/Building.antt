@@ -1,8 +1,9 @@
 -- What a gate and the outputs put into an area leave there. Knows no place of a word.
-use Prim.Native.Nat.{ℕ, zero, suc, ◌+◌, ◌*◌, ◌^◌, ◌≤◌, ◌<◌}
+use Prim.Native.Nat.{ℕ, zero, suc, ◌+◌, ◌-◌, ◌*◌, ◌^◌, ◌≤◌, ◌<◌}
 use mathlib.Core.Path.{◌≡◌, refl, ap, ◌∙◌}
 use mathlib.Core.Logic.{◌≢◌}
 use mathlib.Core.List.{List, [], ◌∷◌, ◌++◌}
+use native.Mathlib.Numerals.{add-one}
 use native.Mathlib.Omega.{arith}
 use native.Mathlib.Decide.{ℕ_discrete}
 use lib.ListN.{length}
@@ -10,9 +11,9 @@ use Rattle.shape.proofs.Written.{gate_eq}
 use Rattle.laws.specs.Lists.{tab}
 use Rattle.laws.proofs.Tabs.{tab_ext}
 use Rattle.tables.specs.Layout.{net_size, kind_at, first_at, count_at, input_at, low_at, high_at, output_at, ins_at, gate_at, nodes_of, outputs_of, put_gate, put_input, put_table, put_output, cell}
-use Rattle.tables.specs.Building.{put_inputs, put_node, put_outputs, Packed}
+use Rattle.tables.specs.Building.{inputs_from, put_inputs, put_node, put_outputs, Packed}
 use Rattle.tables.proofs.Places.{length_put_gate, kind_at_put_gate, first_at_put_gate, count_at_put_gate, kind_at_put_gate_other, first_at_put_gate_other, count_at_put_gate_other, input_at_put_gate, low_at_put_gate, high_at_put_gate, cell_put_gate}
-use Rattle.tables.proofs.Places.{length_put_input, input_at_put_input, input_at_put_input_other, kind_at_put_input, first_at_put_input, count_at_put_input, low_at_put_input, high_at_put_input, cell_put_input}
+use Rattle.tables.proofs.Places.{length_put_input, put_input_comm, input_at_put_input, input_at_put_input_other, kind_at_put_input, first_at_put_input, count_at_put_input, low_at_put_input, high_at_put_input, cell_put_input}
 use Rattle.tables.proofs.Places.{length_put_table, low_at_put_table, high_at_put_table, low_at_put_table_other, high_at_put_table_other, kind_at_put_table, first_at_put_table, count_at_put_table, input_at_put_table, cell_put_table}
 use Rattle.tables.proofs.Places.{length_put_output, output_at_put_output, output_at_put_output_other, kind_at_put_output, first_at_put_output, count_at_put_output, low_at_put_output, high_at_put_output, input_at_put_output, cell_put_output}
 use Rattle.tables.proofs.Gates.{gate_at_same}
@@ -42,6 +43,11 @@ module _ (l : List ℕ) (at : ℕ) (f : ℕ → ℕ) where
   unfolding put_inputs
   input_at_put_inputs_below zero k h = refl
   input_at_put_inputs_below (suc n) k h = input_at_put_input_other _ _ _ k (omega arith) ∙ input_at_put_inputs_below n k h
+
+  pub input_at_put_inputs_above : (n k : ℕ) → at + n ≤ k → input_at (put_inputs l at f n) k ≡ input_at l k
+  unfolding put_inputs
+  input_at_put_inputs_above zero k h = refl
+  input_at_put_inputs_above (suc n) k h = input_at_put_input_other _ _ _ k (omega arith) ∙ input_at_put_inputs_above n k (omega arith)
 
   module _ (w : ℕ) (h : w < 512) where
     pub kind_at_put_inputs : (n : ℕ) → kind_at (put_inputs l at f n) w ≡ kind_at l w
@@ -74,6 +80,52 @@ module _ (l : List ℕ) (at : ℕ) (f : ℕ → ℕ) where
   unfolding put_inputs
   cell_put_inputs zero c j r far = refl
   cell_put_inputs (suc n) c j r far = cell_put_input _ c j far _ _ (omega arith) ∙ cell_put_inputs n c j (omega arith) far
+
+-- the word before them
+put_inputs_before : (l : List ℕ) (at : ℕ) (f g : ℕ → ℕ) → ((i : ℕ) → g i ≡ f (suc i)) → (n : ℕ) → put_input (put_inputs l (suc at) g n) at (f 0) ≡ put_inputs l at f (suc n)
+unfolding put_inputs
+put_inputs_before l at f g h zero = ap (λ (k : ℕ). put_input l k (f 0)) (omega arith)
+put_inputs_before l at f g h (suc n) =
+    let p = put_inputs l (suc at) g n in
+    let a : suc at + n ≡ at + suc n = omega arith in
+    put_input_comm p (suc at + n) at (g n) (f 0) (omega arith)
+    ∙ ap (λ (m : List ℕ). put_input m (suc at + n) (g n)) (put_inputs_before l at f g h n)
+    ∙ rw (a, h n) refl
+
+-- ---- inputs moved within a network
+
+module _ (l₀ l : List ℕ) (f at : ℕ) where
+  -- from the first up: j of them stand at their new place
+  pub forward_next : (j : ℕ) → l ≡ put_inputs l₀ at (inputs_from l₀ f) j → at ≤ f → (s : ℕ) → s ≡ input_at l (f + j)
+      → put_input l (at + j) s ≡ put_inputs l₀ at (inputs_from l₀ f) (j + 1)
+  unfolding inputs_from
+  forward_next j e b s es =
+      let k : s ≡ inputs_from l₀ f j = es ∙ ap (λ (m : List ℕ). input_at m (f + j)) e ∙ input_at_put_inputs_above l₀ at (inputs_from l₀ f) j (f + j) (omega arith) in
+      rw (e, add-one j) (put_inputs_next l₀ at (inputs_from l₀ f) j s k)
+
+  -- from the last down: all but k of them
+  pub back_next : (n k j : ℕ) → l ≡ put_inputs l₀ (at + k) (inputs_from l₀ (f + k)) (n - k) → k ≡ j + 1 → j < n → f ≤ at → (s : ℕ) → s ≡ input_at l (f + j)
+      → put_input l (at + j) s ≡ put_inputs l₀ (at + j) (inputs_from l₀ (f + j)) (n - j)
+  unfolding inputs_from
+  back_next n k j e d h b s es =
+      let g = inputs_from l₀ (f + k) in
+      let p : at + k ≡ suc (at + j) = omega arith in
+      let q : n - j ≡ suc (n - k) = omega arith in
+      let x : f + j ≡ f + j + 0 = omega arith in
+      let r : s ≡ inputs_from l₀ (f + j) 0 = es ∙ ap (λ (m : List ℕ). input_at m (f + j)) e ∙ input_at_put_inputs_below l₀ (at + k) g (n - k) (f + j) (omega arith) ∙ ap (input_at l₀) x in
+      rw (q, e, p, r)
+      (put_inputs_before l₀ (at + j) (inputs_from l₀ (f + j)) g (λ i. let y : f + k + i ≡ f + j + suc i = omega arith in ap (input_at l₀) y) (n - k))
+
+pub back_start : (l : List ℕ) (f at n : ℕ) → l ≡ put_inputs l (at + n) (inputs_from l (f + n)) (n - n)
+unfolding put_inputs
+back_start l f at n = let e : n - n ≡ 0 = omega arith in rw e refl
+
+pub back_end : (l₀ l : List ℕ) (f at n k : ℕ) → l ≡ put_inputs l₀ (at + k) (inputs_from l₀ (f + k)) (n - k) → k ≡ 0 → l ≡ put_inputs l₀ at (inputs_from l₀ f) n
+back_end l₀ l f at n k e z =
+    let a : at + k ≡ at = omega arith in
+    let b : f + k ≡ f = omega arith in
+    let d : n - k ≡ n = omega arith in
+    e ∙ rw (a, b, d) refl
 
 -- ---- a gate behind those that stand there
 

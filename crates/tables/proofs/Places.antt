@@ -1,14 +1,17 @@
 -- What a store does to each reading. With specs/Layout.antt the only file that knows the places of the words.
 use Prim.Native.Nat.{ℕ, zero, suc, ◌+◌, ◌*◌, ◌^◌, ◌≤◌, ◌<◌}
 use mathlib.Core.Path.{◌≡◌, ap, sym, ◌∙◌}
-use mathlib.Core.List.{List}
+use mathlib.Core.List.{List, ◌++◌, append-nil}
 use mathlib.Core.Logic.{◌≢◌}
+use native.Mathlib.Numerals.{add-one}
 use native.Mathlib.Omega.{arith}
 use lib.ListN.{length, get_or, set, take, drop, length-set, length-take, length-drop}
 use mir.Syntax.{w32}
 use mir.Val.{Fits}
 use borrow.Rule.Slice.PartMut.{put_mid}
 use lib.Seq.{paste, paste-zero, paste-suc, get_or-take, get_or-drop, get_or-set_same, get_or-set_other}
+use Rattle.std.proofs.lemmas.List.{set_comm, drop_all}
+use Rattle.std.proofs.lemmas.List.Edits.{paste_all}
 use Rattle.std.proofs.lemmas.Slice.{put_mid-paste}
 use Rattle.tables.specs.Building.{CopiesInputs, inputs_from, put_inputs, put_outputs}
 use Rattle.tables.specs.Layout.{net_size, kind_ix, first_ix, count_ix, ins_base, tab_base, out_base, kind_at, first_at, count_at, input_at, low_at, high_at, output_at, put_gate, put_input, put_table, put_output, cell, store}
@@ -293,6 +296,11 @@ module _ (l : List ℕ) (c j : ℕ) (far : net_size ≤ c) where
   unfolding cell put_output
   cell_put_output o s h = off1 l _ s _ (omega arith)
 
+-- two stores at different places
+pub put_input_comm : (l : List ℕ) (i j a b : ℕ) → i ≢ j → put_input (put_input l i a) j b ≡ put_input (put_input l j b) i a
+unfolding put_input
+put_input_comm l i j a b h = set_comm l (ins_base + i) (ins_base + j) a b (λ e. h (omega arith))
+
 -- ---- words copied as a part of the list
 
 put_inputs_paste : (l s : List ℕ) (at : ℕ) (f : ℕ → ℕ) (n : ℕ) → ((j : ℕ) → j < n → f j ≡ get_or s j 0) → n ≤ length s → ins_base + at + n ≤ length l
@@ -312,6 +320,16 @@ put_outputs_paste l s f (suc m) h r z =
     rw (put_outputs_paste l s f m (λ j q. h j (omega arith)) (omega arith) (omega arith), h m (omega arith))
     (paste-suc l out_base s m 0 (omega arith) (omega arith))
 
+-- a list stored word by word into another of its length
+module _ (l s : List ℕ) (z : length s ≡ length l) (m : List ℕ) (i : ℕ) (e : m ≡ paste l 0 s i) where
+  pub words_next : i < length l → set m i (get_or s i 0) ≡ paste l 0 s (i + 1)
+  words_next h =
+      let a : i ≡ 0 + i = omega arith in
+      rw (e, add-one i) (ap (λ (k : ℕ). set (paste l 0 s i) k (get_or s i 0)) a ∙ paste-suc l 0 s i 0 (omega arith) (omega arith))
+
+  pub words_end : i ≡ length l → m ≡ s
+  words_end h = e ∙ paste_all l 0 s i (h ∙ sym z) ∙ ap (λ (t : List ℕ). s ++ t) (drop_all (0 + i) l (omega arith)) ∙ append-nil s
+
 -- n words from i on, one by one
 part_read : (from : List ℕ) (i n j : ℕ) → j < n → get_or (take n (drop i from)) j 0 ≡ get_or from (i + j) 0
 part_read from i n j h = get_or-take n (drop i from) j 0 h ∙ get_or-drop i from j 0
@@ -327,12 +345,6 @@ module _ (from l : List ℕ) (f at n : ℕ) (C : CopiesInputs from l f at n) whe
       let z : n ≡ length (take n (drop (ins_base + f) from)) = simp (length-take, length-drop) (omega (arith, C.source, C.ends)) in
       put_mid-paste (ins_base + at) k l ys ws n (rw o at y) (sym e) z
       ∙ sym (put_inputs_paste l ws at (inputs_from from f) n (λ j q. word_from j ∙ sym (part_read from (ins_base + f) n j q)) (omega (arith, z)) (omega (arith, C.long, C.room)))
-
-  pub inputs_moved : (k : ℕ) → k ≡ n → paste l (ins_base + at) (drop (ins_base + f) from) k ≡ put_inputs l at (inputs_from from f) n
-  inputs_moved k e =
-      let ws = drop (ins_base + f) from in
-      rw e
-      (sym (put_inputs_paste l ws at (inputs_from from f) n (λ j q. word_from j ∙ sym (get_or-drop (ins_base + f) from j 0)) (simp length-drop (omega (arith, C.source, C.ends))) (omega (arith, C.long, C.room))))
 
 pub outputs_copied : (from l : List ℕ) (m : ℕ) → (m ≤ 64) × (net_size ≤ length from) × (net_size ≤ length l) → (k : ℕ) → k ≡ m → (ys : List ℕ) → ys ≡ take k (drop out_base from)
     → put_mid out_base k l ys ≡ put_outputs l (output_at from) m

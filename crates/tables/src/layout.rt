@@ -123,20 +123,56 @@ pub fn put_output(net: &mut [u32], o: usize, s: u32)
     net[OUT + o] = s;
 }
 
+// stays: no copy_from_slice, for which the archive for C would need memmove; it asks for memset alone.
+fn copy_words(from: &[u32], to: &mut [u32])
+    requires { length from.now ≡ length to.old }
+    ensures { to.new ≡ from.now }
+{
+    for i in 0..to.len() {
+        to[i] = from[i];
+    }
+}
+
 // n input words of `from`, from place f on, to place `at`.
 pub fn copy_inputs(from: &[u32], to: &mut [u32], f: usize, at: usize, n: usize)
     requires { CopiesInputs from.now to.old f at n }
     ensures { to.new ≡ put_inputs to.old at (inputs_from from.now f) n }
 {
-    to[INS + at..INS + at + n].copy_from_slice(&from[INS + f..INS + f + n]);
+    copy_words(&from[INS + f..INS + f + n], &mut to[INS + at..INS + at + n]);
 }
 
-// The same within one network.
+// The same within one network, to no place behind f: from the first word up.
+fn move_forward(net: &mut [u32], f: usize, at: usize, n: usize)
+    requires { (CopiesInputs net.old net.old f at n) × (at ≤ f) }
+    ensures { net.new ≡ put_inputs net.old at (inputs_from net.old f) n }
+{
+    for j in 0..n {
+        let s = input_at(net, f + j);
+        put_input(net, at + j, s);
+    }
+}
+
+// To no place before f: from the last word down.
+fn move_back(net: &mut [u32], f: usize, at: usize, n: usize)
+    requires { (CopiesInputs net.old net.old f at n) × (f ≤ at) }
+    ensures { net.new ≡ put_inputs net.old at (inputs_from net.old f) n }
+{
+    for j in (0..n).rev() {
+        let s = input_at(net, f + j);
+        put_input(net, at + j, s);
+    }
+}
+
+// To any place: no word is overwritten before it is read.
 pub fn move_inputs(net: &mut [u32], f: usize, at: usize, n: usize)
     requires { CopiesInputs net.old net.old f at n }
     ensures { net.new ≡ put_inputs net.old at (inputs_from net.old f) n }
 {
-    net.copy_within(INS + f..INS + f + n, INS + at);
+    if at <= f {
+        move_forward(net, f, at, n);
+    } else {
+        move_back(net, f, at, n);
+    }
 }
 
 // The first m outputs of `from`.
@@ -144,7 +180,7 @@ pub fn copy_outputs(from: &[u32], to: &mut [u32], m: usize)
     requires { (m ≤ 64) × (net_size ≤ length from.now) × (net_size ≤ length to.old) }
     ensures { to.new ≡ put_outputs to.old (output_at from.now) m }
 {
-    to[OUT..OUT + m].copy_from_slice(&from[OUT..OUT + m]);
+    copy_words(&from[OUT..OUT + m], &mut to[OUT..OUT + m]);
 }
 
 // 1: "either of the two work areas is below 16,384 words".

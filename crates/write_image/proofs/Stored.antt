@@ -1,10 +1,11 @@
 -- Words stored one after the other in bytes.
 use mathlib.Core.Path.{◌≡◌, refl, sym, ap, ap₂, ◌∙◌}
 use mathlib.Core.List.{List, [], ◌∷◌, ◌++◌, append_assoc}
-use Prim.Native.Nat.{ℕ, suc, ◌+◌, ◌*◌, ◌≤◌}
+use Prim.Native.Nat.{ℕ, suc, ◌+◌, ◌*◌, ◌≤◌, ◌<◌}
+use native.Mathlib.Numerals.{add-one}
 use native.Mathlib.Omega.{arith}
-use lib.ListN.{length, take, drop, length-append, take-append-drop}
-use lib.Seq.{length-take-le, take_at, drop-append-add, drop-drop}
+use lib.ListN.{length, get_or, set, take, drop, length-append, take-append-drop}
+use lib.Seq.{length-take-le, take_at, drop-append-add, drop-drop, drop-cons, set_at, append_snoc}
 use Rattle.laws.specs.Lists.{tab}
 use Rattle.laws.proofs.Tabs.{length_tab}
 use Rattle.model.specs.Image.{le_word, bytes}
@@ -14,6 +15,11 @@ use Rattle.words.specs.Stores.{put_word}
 use Rattle.words.proofs.Laws.{put_word_list, length_put_word}
 use Rattle.image_trailer.specs.Trailers.{put_words}
 use Rattle.write_image.specs.Writing.{Put}
+
+pub length_put_words : (b : List ℕ) (at : ℕ) (ws : List ℕ) → length (put_words b at ws) ≡ length b
+unfolding put_words
+length_put_words b at [] = refl
+length_put_words b at (w ∷ ws) = length_put_words (put_word b at w) (at + 4) ws ∙ length_put_word b at w
 
 pub put_words_append : (b : List ℕ) (at : ℕ) (xs ys : List ℕ) → put_words b at (xs ++ ys) ≡ put_words (put_words b at xs) (at + 4 * length xs) ys
 unfolding put_words
@@ -71,3 +77,13 @@ unfolding laid_over
 put_words_laid b ws h =
     let z : 0 + 4 * length ws ≡ length (bytes ws) = omega (arith, length_bytes ws) in
     put_words_list b 0 ws (omega arith) ∙ ap (λ (n : ℕ). bytes ws ++ drop n b) z
+
+-- one more element laid over a buffer
+pub laid_none : (b : List ℕ) → b ≡ laid_over [] b
+unfolding laid_over
+laid_none b = refl
+
+pub laid_next : (xs b : List ℕ) (n x : ℕ) → length xs ≡ n → n < length b → set (laid_over xs b) n x ≡ laid_over (xs ++ (x ∷ [])) b
+unfolding laid_over
+laid_next xs b n x e h =
+    rw (e, length-append, e, drop-cons b n 0 h) (set_at xs (get_or b n 0) (drop (suc n) b) x n e ∙ sym (append_snoc xs x (drop (suc n) b)) ∙ rw add-one)

@@ -2,12 +2,11 @@
 use mathlib.Core.Path.{◌≡◌, refl, sym, ap, ◌∙◌}
 use mathlib.Core.Bool.{Bool, true, false, not}
 use mathlib.Core.List.{List, ◌∷◌, ◌++◌}
-use Prim.Native.Nat.{ℕ, suc, ◌+◌, ◌-◌, ◌*◌, ◌≤◌, ◌<◌}
+use Prim.Native.Nat.{ℕ, suc, ◌+◌, ◌*◌, ◌≤◌, ◌<◌}
 use native.Mathlib.Nat.{le_antisymm}
 use native.Mathlib.Omega.{arith}
 use native.Mathlib.Numerals.{add-one}
-use lib.ListN.{length, take, drop, length-append, length-drop}
-use lib.Seq.{get_or-drop}
+use lib.ListN.{length, set, length-append}
 use denote.Enum.Bare.{sameb, same_true, same_false, differs_true, differs_false}
 use mir.Val.{Fits}
 use mir.Syntax.{w64}
@@ -16,7 +15,7 @@ use Rattle.kinds.specs.contracts.Kind.{the_type}
 use Rattle.kinds.specs.declared.Kind.{Kind}
 use Rattle.kinds.specs.declared.Kind.TheVariants.{Lut}
 use Rattle.laws.specs.Lists.{tab}
-use Rattle.laws.proofs.Tabs.{tab_ext, length_tab, take_tab}
+use Rattle.laws.proofs.Tabs.{length_tab}
 use Rattle.model.specs.Image.{table_words, gate_words, gates_words, body_words, net_words, image_of}
 use Rattle.model.specs.Answers.{laid_over}
 use Rattle.model.proofs.Bytes.{length_bytes}
@@ -27,7 +26,7 @@ use Rattle.tables.specs.declared.counts.Counts.{Counts}
 use Rattle.tables.proofs.Holding.{length_nodes_of, inputs_few, nodes_few, outs_few, kind_known}
 use Rattle.image_trailer.specs.Trailers.{put_words, trailer_words, Trailer}
 use Rattle.write_image.specs.Writing.{ins_from, outs_from, mapping_in, Node, Inputs, Writes, Put, Room, Outputs, Mapped}
-use Rattle.write_image.proofs.Stored.{put_words_append, put_words_laid, put_none, put_more, put_next}
+use Rattle.write_image.proofs.Stored.{put_words_append, put_words_laid, put_none, put_more, put_next, laid_none, laid_next}
 use Rattle.write_image.proofs.Sizes.{of_lut, of_other, table_plain, table_lut, length_table, record_words, length_record, words_none, words_next, length_next, length_within, length_image, words_few}
 
 -- ---- record_len and image_len
@@ -225,13 +224,16 @@ module _ (l : List ℕ) (c : Counts) (out : List ℕ) (R : Room l c (net_words (
 
 -- ---- write_mapping
 
-pub mapping_copied : (l : List ℕ) (old : ℕ) (map₀ : List ℕ) → Mapped l old map₀ → (n : ℕ) (m : List ℕ) → n ≡ tr_base + old - tr_base → m ≡ take n (drop tr_base l)
-    → m ++ drop old map₀ ≡ laid_over (mapping_in l old) map₀
-unfolding mapping_in laid_over cell
-mapping_copied l old map₀ M n m d e =
-    let k : n ≡ old = omega arith in
-    let ws : List ℕ = drop tr_base l in
-    let within : old ≤ length ws = rw length-drop (omega (arith, M.inside)) in
-    let f : ℕ → ℕ = cell l tr_base in
-    let is : m ≡ tab f old = e ∙ ap (λ (i : ℕ). take i ws) k ∙ take_tab ws old within ∙ tab_ext _ _ old (λ i h. get_or-drop tr_base l i 0) in
-    rw (is, length_tab f old)
+module _ (l : List ℕ) (old : ℕ) (map₀ : List ℕ) (M : Mapped l old map₀) where
+  pub mapping_none : map₀ ≡ laid_over (mapping_in l 0) map₀
+  unfolding mapping_in tab
+  mapping_none = laid_none map₀
+
+  module _ (map : List ℕ) (i : ℕ) (e : map ≡ laid_over (mapping_in l i) map₀) where
+    pub mapping_all : i ≤ old → old ≤ i → map ≡ laid_over (mapping_in l old) map₀
+    mapping_all a b = e ∙ ap (λ (k : ℕ). laid_over (mapping_in l k) map₀) (le_antisymm a b)
+
+    pub mapping_next : i < old → (x : ℕ) → x ≡ cell l tr_base i → set map i x ≡ laid_over (mapping_in l (i + 1)) map₀
+    unfolding mapping_in tab
+    mapping_next h x k =
+        rw (e, k, add-one) (laid_next (tab (cell l tr_base) i) map₀ i (cell l tr_base i) (length_tab (cell l tr_base) i) (omega (arith, M.room)))

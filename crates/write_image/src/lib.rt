@@ -13,7 +13,7 @@ use image_trailer::write_trailer;
 use kinds::{Kind, kind_of};
 use tables::counts::Counts;
 use tables::layout::{count_at, first_at, high_at, input_at, kind_at, low_at, output_at};
-use tables::scratch::TR;
+use tables::scratch::{TR, word};
 use words::put_word;
 
 // The words of node v's record.
@@ -111,9 +111,12 @@ pub fn write_image(from: &[u32], counts: Counts, out: &mut [u8])
 }
 
 // The mapping of so many old nodes, which stands behind the network, at the front of a buffer that has room for it.
+// stays: no copy_from_slice, as in `tables`.
 pub fn write_mapping(from: &[u32], old: usize, map: &mut [u32])
     requires { Mapped from.now old map.old }
     ensures { map.new ≡ laid_over (mapping_in from.now old) map.old }
 {
-    map[..old].copy_from_slice(&from[TR..TR + old]);
+    for i in 0..old {
+        map[i] = word(from, TR, i);
+    }
 }

@@ -1,0 +1,8 @@
+-- `move_back`: what its loop keeps.
+use Prim.Native.Nat.{◌+◌, ◌-◌}
+use mathlib.Core.Path.{◌≡◌}
+use Rattle.tables.specs.Building.{inputs_from, put_inputs}
+use Rattle.tables.proofs.layout.move_back.Given as goal
+
+abbrev pub invariant-loop-j : goal.invariant-loop-j
+invariant-loop-j l = l.net ≡ put_inputs l.initial.net (l.at + l.j) (inputs_from l.initial.net (l.f + l.j)) (l.n - l.j)
